@@ -1,0 +1,1 @@
+// The bench cards of document 01 that are marked P.

@@ -1,0 +1,84 @@
+-- Which byte lists read as a message: those that begin with a frame, whatever follows. Assumes nothing.
+use Prim.Native.Nat.{ℕ, _^_, _≤_, _<_}
+use mathlib.Core.Path.{_≡_, refl, subst}
+use mathlib.Core.Bool.{Bool, true, false, cond}
+use mathlib.Core.List.{List, [], _∷_, _++_}
+use native.Mathlib.Omega.{arith}
+use borrow.Author.Tests.{le-ltb, ltb-false}
+use lib.Dec.{ltb}
+use lib.ListN.{length, getD, take, drop, length-append, length-drop}
+use lib.Seq.{take-append-le, length-take-le}
+use Rattle.gateway.specs.declared.Kind.{Kind}
+use Rattle.gateway.specs.declared.Msg.{Msg}
+use Rattle.gateway.specs.Row.{msg}
+use Rattle.refusal.specs.declared.Refusal.{Refusal}
+use Rattle.frame.specs.declared.Order.{Order}
+use Rattle.frame.specs.declared.Head.{Head}
+use Rattle.frame.specs.declared.Head.the-variants.{Frame, NoHead}
+use Rattle.frame.specs.declared.Reading.the-variants.{Message, Refused}
+use Rattle.frame.specs.Bytes.{AllBytes, valueOf}
+use Rattle.frame.specs.Frames.{bodyLength, frameLength, frameOf, headOf, bodyOf, readAs, readOf}
+use Rattle.frame.proofs.Digits.{bytes-take, bytes-drop, field-value, value-fits}
+use Rattle.frame.proofs.Heads.{head-byte}
+
+-- s begins with a kind byte of m's kind and a whole body, which holds m's value in the order that the byte names
+pub record Begins (s : List ℕ) (m : Msg) : Type 0 where
+  pub order : Order
+  pub named : headOf (getD s 0 0) ≡ Frame order (m .kind)
+  pub whole : frameLength (m .kind) ≤ length s
+  pub body : valueOf order (bodyOf (m .kind) s) ≡ m .value
+
+-- what begins so reads as the message
+pub begins-read : (s : List ℕ) (m : Msg) → Begins s m → readOf s ≡ Message m
+begins-read [] m f = absurd (omega (arith, f .whole))
+begins-read (b ∷ l) m f =
+    rw (f .named, le-ltb (length (b ∷ l)) (frameLength (m .kind)) (f .whole), f .body)
+
+-- and nothing else does
+pub read-begins : (s : List ℕ) (m : Msg) → readOf s ≡ Message m → Begins s m
+read-begins [] m e = let z : _≡_ {A = ℕ} 0 1 = cc in absurd (omega arith)
+read-begins (b ∷ l) m e = byHead (headOf b) refl e
+  where
+    byLength : (o : Order) (k : Kind) (r : Refusal) (t : Bool) →
+        headOf b ≡ Frame o k → ltb (length (b ∷ l)) (frameLength k) ≡ t →
+        cond t (Refused r) (Message (msg (valueOf o (bodyOf k (b ∷ l))) k)) ≡ Message m → Begins (b ∷ l) m
+    byLength o k r true q t f = let z : _≡_ {A = ℕ} 0 1 = cc in absurd (omega arith)
+    byLength o k r false q t f =
+        let z : msg (valueOf o (bodyOf k (b ∷ l))) k ≡ m = cc in
+        subst (Begins (b ∷ l)) z (record { order = o; named = q; whole = ltb-false _ _ t; body = refl })
+
+    byHead : (h : Head) → headOf b ≡ h → readAs h (b ∷ l) ≡ Message m → Begins (b ∷ l) m
+    byHead NoHead q f = let z : _≡_ {A = ℕ} 0 1 = cc in absurd (omega arith)
+    byHead (Frame o k) q f = byLength o k _ (ltb (length (b ∷ l)) (frameLength k)) q refl f
+
+-- what begins so does so whatever follows
+pub begins-more : (s more : List ℕ) (m : Msg) → Begins s m → Begins (s ++ more) m
+begins-more [] more m f = absurd (omega (arith, f .whole))
+begins-more (b ∷ l) more m f =
+    record {
+      order = f .order;
+      named = f .named;
+      whole = omega (arith, f .whole, length-append l more);
+      body = rw (take-append-le (bodyLength (m .kind)) l more (omega (arith, f .whole))) (f .body);
+    }
+
+-- where s is of bytes, so is the body, and it has the length that the kind fixes
+begins-body : (s : List ℕ) (m : Msg) → AllBytes s → Begins s m →
+    AllBytes (bodyOf (m .kind) s) × (length (bodyOf (m .kind) s) ≡ bodyLength (m .kind))
+begins-body s m a f =
+    let w = bodyLength (m .kind) in
+    (bytes-take w (drop 1 s) (bytes-drop 1 s a), length-take-le w (drop 1 s) (omega (arith, f .whole, length-drop 1 s)))
+
+-- so the value is of 32 bits
+pub begins-small : (s : List ℕ) (m : Msg) → AllBytes s → Begins s m → m .value < 2 ^ 32
+begins-small s m a f =
+    let b = begins-body s m a f in rw (← f .body) (value-fits (f .order) (bodyLength (m .kind)) _ (b .0) (b .1))
+
+-- and what s begins with is the frame of m
+pub begins-frame : (s : List ℕ) (m : Msg) → AllBytes s → (f : Begins s m) →
+    frameOf (f .order) m ≡ take (frameLength (m .kind)) s
+begins-frame [] m a f = absurd (omega (arith, f .whole))
+begins-frame (x ∷ l) m a f =
+    let b = begins-body (x ∷ l) m a f in
+    let g = field-value (f .order) (bodyLength (m .kind)) (bodyOf (m .kind) (x ∷ l)) (b .0) (b .1) in
+    rw (← head-byte x (f .order) (m .kind) (f .named), ← f .body, g)

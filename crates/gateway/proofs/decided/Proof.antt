@@ -1,0 +1,16 @@
+-- `gateway::decided` is state 3 of the table. Assumes nothing.
+use mathlib.Core.Path.{sym}
+use native.Mathlib.Omega.{arith}
+use borrow.Author.Needs.{needs}
+use Rattle.gateway.proofs.Tests.{ite-lt, ite-le}
+use Rattle.gateway.proofs.decided.Statement.{statement}
+use Rattle.gateway.proofs.decided.Tie as tie
+
+returns : tie.Need-returns
+returns c = sym (ite-lt (omega (arith, c .before .before .larger .ensures, c .if1 .taken)) _ _)
+
+returns-2 : tie.Need-returns-2
+returns-2 c = sym (ite-le (omega (arith, c .before .before .larger .ensures, c .if1 .left)) _ _)
+
+pub decided-spec : {M : Type 1} → statement M
+decided-spec = tie.close (tie.spec (λ c κs. search needs) returns returns-2)

@@ -1,0 +1,2 @@
+-- What is proved of the refusals' numbers.
+pub mod Apart

@@ -1,0 +1,6 @@
+-- Laws of a ring.
+pub mod Examples
+pub mod Scans
+pub mod Moves
+pub mod Good
+pub mod Identity

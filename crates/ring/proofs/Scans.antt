@@ -1,0 +1,73 @@
+-- What a loop that tests every index below a bound knows. Assumes nothing.
+use Prim.Native.Nat.{ℕ, zero, suc, _<_}
+use mathlib.Core.Path.{_≡_, refl, ap}
+use mathlib.Core.Bool.{Bool, true, false, _&&_, cond, true≢false}
+use mathlib.Core.Logic.{⊎-elim}
+use native.Mathlib.Nat.{not-suc-le-zero, le-of-suc-le-suc, eq-or-lt-of-le}
+use native.Mathlib.Omega.{arith}
+use Rattle.ring.specs.Scan.{allBelow, firstBelow}
+
+pub and-left : (a b : Bool) → (a && b) ≡ true → a ≡ true
+and-left true b e = refl
+and-left false b e = e
+
+pub and-right : (a b : Bool) → (a && b) ≡ true → b ≡ true
+and-right true b e = e
+and-right false b e = let z : _≡_ {A = Bool} false true = e in cc
+
+module _ (P : ℕ → Bool) where
+  -- every index below passes
+  pub all-at : (n i : ℕ) → i < n → allBelow n P ≡ true → P i ≡ true
+  all-at zero i h e = absurd (not-suc-le-zero h)
+  all-at (suc n) i h e =
+      ⊎-elim (λ (q : i ≡ n). rw q (and-right (allBelow n P) (P n) e))
+      (λ (l : i < n). all-at n i l (and-left (allBelow n P) (P n) e))
+      (eq-or-lt-of-le (le-of-suc-le-suc h))
+
+  -- where every index passes, all do
+  pub all-of : (n : ℕ) → ((i : ℕ) → i < n → P i ≡ true) → allBelow n P ≡ true
+  all-of zero h = refl
+  all-of (suc n) h = rw (all-of n (λ i l. h i (omega arith)), h n (omega arith))
+
+-- where not all pass, some index fails
+pub some-fails : (P : ℕ → Bool) (n : ℕ) → allBelow n P ≡ false → (i : ℕ) × (i < n) × (P i ≡ false)
+some-fails P zero e = let z : _≡_ {A = Bool} true false = e in absurd (true≢false z)
+some-fails P (suc n) e = go (some-fails P n) (allBelow n P) refl e
+  where
+    go : (allBelow n P ≡ false → (i : ℕ) × (i < n) × (P i ≡ false)) → (b : Bool) → allBelow n P ≡ b →
+        (b && P n) ≡ false → (i : ℕ) × (i < suc n) × (P i ≡ false)
+    go later true q z = (n, omega arith, z)
+    go later false q z = let f = later q in (f .0, omega (arith, f .1), f .2)
+
+-- two tests that agree below n
+pub all-same : (P Q : ℕ → Bool) (n : ℕ) → ((i : ℕ) → i < n → P i ≡ Q i) → allBelow n P ≡ allBelow n Q
+all-same P Q zero h = refl
+all-same P Q (suc n) h = rw (all-same P Q n (λ i l. h i (omega arith)), h n (omega arith))
+
+-- where the test holds nowhere
+pub first-none : (P : ℕ → Bool) (n : ℕ) → ((k : ℕ) → k < n → P k ≡ false) → firstBelow n P ≡ n
+first-none P zero none = refl
+first-none P (suc n) none =
+    rw (none 0 (omega arith)) (ap suc (first-none (λ k. P (suc k)) n (λ k l. none (suc k) (omega arith))))
+
+-- before the first index at which it holds, it fails
+pub first-before : (P : ℕ → Bool) (n k : ℕ) → k < firstBelow n P → P k ≡ false
+first-before P zero k h = absurd (not-suc-le-zero h)
+first-before P (suc n) k h = go (λ k l. first-before (λ i. P (suc i)) n k l) (P 0) refl k h
+  where
+    go : ((k : ℕ) → k < firstBelow n (λ i. P (suc i)) → P (suc k) ≡ false) → (b : Bool) → P 0 ≡ b → (k : ℕ) →
+        k < cond b 0 (suc (firstBelow n (λ i. P (suc i)))) → P k ≡ false
+    go later true e k l = absurd (not-suc-le-zero l)
+    go later false e zero l = e
+    go later false e (suc k) l = later k (le-of-suc-le-suc l)
+
+-- at it, if there is one, it holds
+pub first-holds : (P : ℕ → Bool) (n : ℕ) → firstBelow n P < n → P (firstBelow n P) ≡ true
+first-holds P zero h = absurd (not-suc-le-zero h)
+first-holds P (suc n) h = go (λ l. first-holds (λ i. P (suc i)) n l) (P 0) refl h
+  where
+    go : (firstBelow n (λ i. P (suc i)) < n → P (suc (firstBelow n (λ i. P (suc i)))) ≡ true) →
+        (b : Bool) → P 0 ≡ b → cond b 0 (suc (firstBelow n (λ i. P (suc i)))) < suc n →
+        P (cond b 0 (suc (firstBelow n (λ i. P (suc i))))) ≡ true
+    go later true e l = e
+    go later false e l = later (le-of-suc-le-suc l)

@@ -1,0 +1,10 @@
+-- Laws of the words of a ring.
+pub mod Conditions
+pub mod Examples
+pub mod Blocks
+pub mod Records
+pub mod Tables
+pub mod Sound
+pub mod Outside
+pub mod Told
+pub mod Refused

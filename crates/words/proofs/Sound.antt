@@ -1,0 +1,222 @@
+-- Well-formed words are those of a ring that fits, and the words of a ring that fits are well-formed. Assumes nothing.
+use Prim.Native.Nat.{ℕ, _+_, _*_, _<_, _≤_}
+use mathlib.Core.Path.{_≡_, refl, sym, ap, _∙_}
+use mathlib.Core.Bool.{Bool, true, false, _&&_, true≢false}
+use mathlib.Core.List.{List, [], _∷_, _++_}
+use native.Mathlib.Omega.{arith}
+use borrow.Author.Tests.{leb-true, le-leb}
+use lib.ListN.{length, getD, take, drop, length-drop}
+use lib.Seq.{getD-take, getD-drop, length-take-le}
+use lib.Dec.{leb}
+use Rattle.gateway.specs.declared.Proc.{Proc}
+use Rattle.gateway.specs.declared.Msg.{Msg}
+use Rattle.ring.specs.Ring.{Ring, queueOf}
+use Rattle.ring.specs.Identities.{DistinctBelow, isFresh}
+use Rattle.ring.specs.Gateways.{starting, procAt}
+use Rattle.ring.proofs.Scans.{and-left, and-right, all-at, all-of}
+use Rattle.ring.proofs.Good.{Good}
+use Rattle.ring.proofs.Identity.{fresh-distinct, distinct-fresh}
+use Rattle.words.specs.Layout.{mostProcesses, mostCapacity, recordHead, recordWidth, recordPlace, tableLength}
+use Rattle.words.specs.Table.{
+  recordWords,
+  blocks,
+  tableWords,
+  countOf,
+  capacityOf,
+  recordAt,
+  restOf,
+  readProc,
+  readQueue,
+  lengthOf,
+  firsts,
+  ringOf,
+}
+use Rattle.words.specs.WellFormed.{inRange, longOk, sizesOk, identAt, identsOk, recordOk, recordsOk, wellFormed}
+use Rattle.words.specs.Outcomes.{rewritten}
+use Rattle.words.proofs.Blocks.{length-firsts, firsts-at, blocks-same, blocks-cut}
+use Rattle.words.proofs.Records.{length-read, length-fits, record-image, record-ok, read-proc}
+use Rattle.words.proofs.Tables.{
+  record-inside,
+  past-head,
+  count-back,
+  capacity-back,
+  table-long,
+  record-back,
+}
+
+-- the sizes that document 01 allows
+pub record Sized (n c : ℕ) : Type 0 where
+  pub some : 1 ≤ n
+  pub few : n ≤ mostProcesses
+  pub roomy : 1 ≤ c
+  pub small : c ≤ mostCapacity
+
+-- no two processes of a ring have one identity
+abbrev pub DistinctIn : ℕ → Ring Proc Msg → Type 0
+DistinctIn n R = DistinctBelow n (λ j. procAt R j .ident)
+
+-- a table that is the words of its ring, with what lies beyond behind
+pub record Sound (t : List ℕ) : Type 0 where
+  pub long : tableLength (countOf t) (capacityOf t) ≤ length t
+  pub sized : Sized (countOf t) (capacityOf t)
+  pub distinct : DistinctIn (countOf t) (ringOf t)
+  pub good : Good (countOf t) (capacityOf t) (ringOf t)
+  pub image : t ≡ rewritten t (ringOf t)
+
+-- the ring of a table, process by process and queue by queue --
+
+module _ (t : List ℕ) (j : ℕ) (h : j < countOf t) where
+  pub proc-read : procAt (ringOf t) j ≡ readProc (recordAt t (capacityOf t) j)
+  unfolding ringOf
+  proc-read = firsts-at (countOf t) (λ j. readProc (recordAt t (capacityOf t) j)) (starting 0) j h
+
+  pub queue-read : queueOf (ringOf t) j ≡ readQueue (recordAt t (capacityOf t) j)
+  unfolding ringOf
+  queue-read = firsts-at (countOf t) (λ j. readQueue (recordAt t (capacityOf t) j)) [] j h
+
+-- the first word of a record is the identity
+pub ident-word : (t : List ℕ) (j : ℕ) → readProc (recordAt t (capacityOf t) j) .ident ≡ identAt t j
+ident-word t j =
+    let p = recordPlace (capacityOf t) j in
+    getD-take (recordWidth (capacityOf t)) (drop p t) 0 0 (omega arith) ∙ getD-drop p t 0 0
+
+-- identities that differ by one reading differ by another
+same-distinct : (n : ℕ) (f g : ℕ → ℕ) → ((j : ℕ) → j < n → f j ≡ g j) → DistinctBelow n f → DistinctBelow n g
+same-distinct n f g e d i j hi hj q = d i j hi hj (e i hi ∙ q ∙ sym (e j hj))
+
+-- from the tests --
+
+module _ (t : List ℕ) (ok : wellFormed t ≡ true) where
+  upto-idents : (longOk t && sizesOk t && identsOk t) ≡ true
+  unfolding wellFormed
+  upto-idents = and-left (longOk t && sizesOk t && identsOk t) (recordsOk t) ok
+
+  upto-sizes : (longOk t && sizesOk t) ≡ true
+  upto-sizes = and-left (longOk t && sizesOk t) (identsOk t) upto-idents
+
+  long : tableLength (countOf t) (capacityOf t) ≤ length t
+  long = leb-true _ _ (and-left (longOk t) (sizesOk t) upto-sizes)
+
+  sized : Sized (countOf t) (capacityOf t)
+  sized =
+      let n = countOf t in
+      let c = capacityOf t in
+      let both = and-right (longOk t) (sizesOk t) upto-sizes in
+      let ns = and-left (inRange mostProcesses n) (inRange mostCapacity c) both in
+      let cs = and-right (inRange mostProcesses n) (inRange mostCapacity c) both in
+      record {
+        some = leb-true _ _ (and-left (leb 1 n) (leb n mostProcesses) ns);
+        few = leb-true _ _ (and-right (leb 1 n) (leb n mostProcesses) ns);
+        roomy = leb-true _ _ (and-left (leb 1 c) (leb c mostCapacity) cs);
+        small = leb-true _ _ (and-right (leb 1 c) (leb c mostCapacity) cs);
+      }
+
+  distinct : DistinctIn (countOf t) (ringOf t)
+  distinct =
+      same-distinct (countOf t) (identAt t) (λ j. procAt (ringOf t) j .ident)
+      (λ j h. sym (ap (λ (p : Proc). p .ident) (proc-read t j h) ∙ ident-word t j))
+      (fresh-distinct (identAt t) (countOf t)
+      (λ i h. all-at (isFresh (identAt t)) (countOf t) i h
+      (and-right (longOk t && sizesOk t) (identsOk t) upto-idents)))
+
+  record-fine : (j : ℕ) → j < countOf t → recordOk (capacityOf t) (recordAt t (capacityOf t) j) ≡ true
+  unfolding wellFormed
+  record-fine j h =
+      all-at (λ j. recordOk (capacityOf t) (recordAt t (capacityOf t) j)) (countOf t) j h
+      (and-right (longOk t && sizesOk t && identsOk t) (recordsOk t) ok)
+
+  good : Good (countOf t) (capacityOf t) (ringOf t)
+  unfolding ringOf
+  good = record {
+    procs = length-firsts (countOf t) (λ j. readProc (recordAt t (capacityOf t) j));
+    queues = length-firsts (countOf t) (λ j. readQueue (recordAt t (capacityOf t) j));
+    fitting = λ j h. rw (queue-read t j h) (fits j h);
+  }
+    where
+      fits : (j : ℕ) → j < countOf t → length (readQueue (recordAt t (capacityOf t) j)) ≤ capacityOf t
+      fits j h =
+          let r = recordAt t (capacityOf t) j in
+          rw (length-read (lengthOf r) (drop recordHead r)) (length-fits (capacityOf t) r (record-fine j h))
+
+  record-whole : (j : ℕ) → j < countOf t → length (recordAt t (capacityOf t) j) ≡ recordWidth (capacityOf t)
+  record-whole j h =
+      let c = capacityOf t in
+      length-take-le (recordWidth c) (drop (recordPlace c j) t)
+      (simp length-drop (omega (arith, record-inside c j (countOf t) h, long)))
+
+  record-words : (j : ℕ) → j < countOf t →
+      recordWords (capacityOf t) (procAt (ringOf t) j) (queueOf (ringOf t) j) ≡ recordAt t (capacityOf t) j
+  record-words j h =
+      rw (proc-read t j h, queue-read t j h)
+      (record-image (capacityOf t) (recordAt t (capacityOf t) j) (record-whole j h) (record-fine j h))
+
+-- the two words of the head, and the records behind them
+module _ (n c : ℕ) (ws : List ℕ) (ok : wellFormed (n ∷ c ∷ ws) ≡ true) where
+  whole : n ∷ c ∷ ws ≡ rewritten (n ∷ c ∷ ws) (ringOf (n ∷ c ∷ ws))
+  unfolding tableWords
+  whole =
+      let t : List ℕ = n ∷ c ∷ ws in
+      let w = recordWidth c in
+      let room : n * w ≤ length ws = omega (arith, long t ok) in
+      let cut : (j : ℕ) → j < n → recordWords c (procAt (ringOf t) j) (queueOf (ringOf t) j) ≡ take w (drop (j * w) ws) =
+      λ j h. rw (past-head c j) at (record-words t ok j h) in
+      rw (past-head c n, blocks-same n _ _ cut) (ap (λ (x : List ℕ). n ∷ c ∷ x) (sym (blocks-cut w n ws room)))
+
+-- a well-formed table is the words of its ring with the rest behind
+pub formed-image : (t : List ℕ) → wellFormed t ≡ true → t ≡ rewritten t (ringOf t)
+formed-image [] ok = absurd (omega (arith, sized [] ok .some))
+formed-image (n ∷ []) ok = absurd (omega (arith, sized (n ∷ []) ok .roomy))
+formed-image (n ∷ c ∷ ws) ok = whole n c ws ok
+
+pub formed-sound : (t : List ℕ) → wellFormed t ≡ true → Sound t
+formed-sound t ok = record {
+  long = long t ok;
+  sized = sized t ok;
+  distinct = distinct t ok;
+  good = good t ok;
+  image = formed-image t ok;
+}
+
+-- and back to the tests --
+
+sizes-pass : (n c : ℕ) → Sized n c → (inRange mostProcesses n && inRange mostCapacity c) ≡ true
+sizes-pass n c s =
+    rw (
+      le-leb 1 n (s .some),
+      le-leb n mostProcesses (s .few),
+      le-leb 1 c (s .roomy),
+      le-leb c mostCapacity (s .small),
+    )
+
+all-pass : (t : List ℕ) → longOk t ≡ true → sizesOk t ≡ true → identsOk t ≡ true → recordsOk t ≡ true →
+    wellFormed t ≡ true
+unfolding wellFormed
+all-pass t a b c d = rw (a, b, c, d)
+
+module _ (n c : ℕ) (R : Ring Proc Msg) (rest : List ℕ) (s : Sized n c) (g : Good n c R) (d : DistinctIn n R) where
+  abbrev table : List ℕ
+  table = tableWords n c R ++ rest
+
+  record-is : (j : ℕ) → j < n →
+      recordAt table (capacityOf table) j ≡ recordWords c (procAt R j) (queueOf R j)
+  record-is j h = rw (capacity-back n c R rest) (record-back n c R rest j h)
+
+  ident-is : (j : ℕ) → j < n → procAt R j .ident ≡ identAt table j
+  ident-is j h =
+      sym (ap (λ (p : Proc). p .ident) (ap readProc (record-is j h) ∙ read-proc c (procAt R j) (queueOf R j)))
+      ∙ ident-word table j
+
+  -- the words of a ring that fits, of different identities, are well-formed
+  pub words-formed : wellFormed (tableWords n c R ++ rest) ≡ true
+  words-formed =
+      let cn = count-back n c R rest in
+      let cc = capacity-back n c R rest in
+      all-pass table
+      (rw (cn, cc) (le-leb _ _ (table-long n c R rest)))
+      (rw (cn, cc) (sizes-pass n c s))
+      (rw cn
+      (all-of (isFresh (identAt table)) n
+      (distinct-fresh (identAt table) n (same-distinct n (λ j. procAt R j .ident) (identAt table) ident-is d))))
+      (rw cn
+      (all-of (λ j. recordOk (capacityOf table) (recordAt table (capacityOf table) j)) n
+      (λ j h. rw (record-is j h, cc) (record-ok c (procAt R j) (queueOf R j) (g .fitting j h)))))
