@@ -2,3 +2,4 @@
 pub mod Examples
 pub mod Tests
 pub mod Numbering
+pub mod SameIdentity

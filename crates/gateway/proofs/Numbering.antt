@@ -53,6 +53,10 @@ state-small Relays = omega arith
 state-small Carries = omega arith
 state-small Leads = omega arith
 
+-- two states with one number are one
+pub state-apart : (s t : State) → stateNumber s ≡ stateNumber t → s ≡ t
+state-apart s t e = sym (state-back s) ∙ ap stateOf e ∙ state-back t
+
 -- the same of kinds
 pub kind-back : (k : Kind) → kindOf (kindNumber k) ≡ k
 kind-back Passive = refl

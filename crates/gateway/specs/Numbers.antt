@@ -38,10 +38,10 @@ kindNumber Active = 1
 abbrev pub lastKind : ℕ
 lastKind = 1
 
--- the kinds before the last
+-- the kinds before the last, in the order of their numbers
 abbrev pub kindsBefore : List Kind
 kindsBefore = Passive ∷ []
 
--- the kind of a number, likewise
+-- the kind of a number; a number above the last counts as the last
 abbrev pub kindOf : ℕ → Kind
 kindOf n = getD kindsBefore n Active

@@ -1,4 +1,5 @@
 -- Document 01's table "A row for each state". A process puts, takes, announces or ends; fields not named stay.
+-- Its states by number: 0 Sends, 1 Listens, 2 Compares, 3 Decides, 4 Relays, 5 Carries, 6 Leads.
 use Prim.Native.Nat.{ℕ, max}
 use mathlib.Core.Logic.{ite}
 use native.Mathlib.Decide.{decLt, ℕ-discrete}
@@ -21,16 +22,19 @@ msg v k = record { value = v; kind = k }
 abbrev pub proc : ℕ → State → ℕ → ℕ → Kind → Proc
 proc i s d e b = record { ident = i; state = s; d = d; e = e; b = b }
 
--- the process with another state, d, e or b
+-- the process in another state
 abbrev pub inState : State → Proc → Proc
 inState s p = proc (p .ident) s (p .d) (p .e) (p .b)
 
+-- with another d
 abbrev pub withD : ℕ → Proc → Proc
 withD v p = proc (p .ident) (p .state) v (p .e) (p .b)
 
+-- with another e
 abbrev pub withE : ℕ → Proc → Proc
 withE v p = proc (p .ident) (p .state) (p .d) v (p .b)
 
+-- with another b
 abbrev pub withB : Kind → Proc → Proc
 withB k p = proc (p .ident) (p .state) (p .d) (p .e) k
 

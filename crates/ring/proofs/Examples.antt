@@ -1,13 +1,13 @@
 -- Ring 5, 9 with c = 1, by document 01's cards and the mistakes that it names, computed. Assumes nothing.
 use Prim.Native.Nat.{ℕ, zero, suc}
 use mathlib.Core.Path.{_≡_, refl}
-use mathlib.Core.List.{List, [], _∷_, _++_}
+use mathlib.Core.List.{List, [], _∷_}
 use native.Mathlib.Decide.{decLt, ℕ-discrete}
 use Rattle.refusal.specs.declared.Refusal.the-variants.{NoProcess, Empty, Full, Over}
 use Rattle.gateway.specs.declared.Proc.{Proc}
 use Rattle.gateway.specs.declared.Msg.{Msg}
-use Rattle.ring.specs.Ring.{Ring, refused, move, after, moves}
-use Rattle.ring.specs.Runs.{Run, ends, endUsedUp, endOver, endSpent, runFrom}
+use Rattle.ring.specs.Ring.{Ring, refused, move, after}
+use Rattle.ring.specs.Runs.{Run, endUsedUp, endOver, endSpent, runFrom}
 use Rattle.ring.specs.Gateways.{gateways, procAt, started, hasLeader, leaderOf, running}
 use Rattle.ring.specs.Active.{inRing, activeIn}
 
@@ -41,7 +41,7 @@ run59-card = record { end = refl; taken = refl; leader = refl; value = refl; own
 pub record Refusals : Type 0 where
   pub full : move gateways 2 1 (after59 (0 ∷ 1 ∷ 0 ∷ [])) 0 ≡ refused (Full 0)
   pub empty : move gateways 2 1 (after59 (0 ∷ [])) 0 ≡ refused (Empty 0)
-  pub none : move gateways 2 1 start59 2 ≡ refused (NoProcess 2)
+  pub none : move gateways 2 1 start59 7 ≡ refused (NoProcess 2)
   pub over : move gateways 2 1 (run59 .ring) 0 ≡ refused (Over 0)
   pub leaderless : leaderOf 2 start59 ≡ 2
 

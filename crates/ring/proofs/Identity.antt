@@ -1,6 +1,6 @@
 -- Identities that pass the test are pairwise different, and the other way round. Assumes nothing.
 use Prim.Native.Nat.{ℕ, _<_, _≤_}
-use mathlib.Core.Path.{_≡_, sym, ap}
+use mathlib.Core.Path.{_≡_, sym, ap, _∙_}
 use mathlib.Core.Bool.{true, false, not}
 use mathlib.Core.List.{List}
 use native.Mathlib.Decide.{decLt}
@@ -10,6 +10,10 @@ use lib.ListN.{length}
 use lib.Dec.{eqb}
 use Rattle.ring.specs.Identities.{identOf, DistinctBelow, Distinct, isFresh, firstRepeat}
 use Rattle.ring.proofs.Scans.{all-at, all-of, some-fails, first-none, first-before, first-holds}
+
+-- identities that differ by one reading differ by another
+pub same-distinct : (n : ℕ) (f g : ℕ → ℕ) → ((j : ℕ) → j < n → f j ≡ g j) → DistinctBelow n f → DistinctBelow n g
+same-distinct n f g e d i j hi hj q = d i j hi hj (e i hi ∙ q ∙ sym (e j hj))
 
 module _ (ident : ℕ → ℕ) where
   -- a fresh identity differs from each before it

@@ -4,3 +4,6 @@ pub mod Scans
 pub mod Moves
 pub mod Good
 pub mod Identity
+pub mod SameIdentities
+pub mod Running
+pub mod Leaders

@@ -1,11 +1,14 @@
 -- What a loop that tests every index below a bound knows. Assumes nothing.
-use Prim.Native.Nat.{ℕ, zero, suc, _<_}
-use mathlib.Core.Path.{_≡_, refl, ap}
-use mathlib.Core.Bool.{Bool, true, false, _&&_, cond, true≢false}
+use Prim.Native.Nat.{ℕ, zero, suc, _<_, _≤_}
+use mathlib.Core.Path.{_≡_, refl, sym, ap, _∙_}
+use mathlib.Core.Bool.{Bool, true, false, _&&_, not, cond, true≢false}
 use mathlib.Core.Logic.{⊎-elim}
 use native.Mathlib.Nat.{not-suc-le-zero, le-of-suc-le-suc, eq-or-lt-of-le}
+use native.Mathlib.Decide.{decLt}
 use native.Mathlib.Omega.{arith}
-use Rattle.ring.specs.Scan.{allBelow, firstBelow}
+use borrow.Author.Tests.{lt-ltb, le-ltb, not-true, not-false}
+use lib.Dec.{ltb}
+use Rattle.ring.specs.Scan.{allBelow, someBelow, firstBelow}
 
 pub and-left : (a b : Bool) → (a && b) ≡ true → a ≡ true
 and-left true b e = refl
@@ -71,3 +74,22 @@ first-holds P (suc n) h = go (λ l. first-holds (λ i. P (suc i)) n l) (P 0) ref
         P (cond b 0 (suc (firstBelow n (λ i. P (suc i))))) ≡ true
     go later true e l = e
     go later false e l = later (le-of-suc-le-suc l)
+
+-- some index passes exactly where there is a first
+pub some-first : (P : ℕ → Bool) (n : ℕ) → someBelow n P ≡ ltb (firstBelow n P) n
+some-first P n = go (allBelow n (λ i. not (P i))) refl
+  where
+    not-below : (i : ℕ) → P i ≡ true → Dec (i < firstBelow n P) → firstBelow n P ≤ i
+    not-below i e (yes l) = absurd (true≢false (sym e ∙ first-before P n i l))
+    not-below i e (no l) = omega arith
+
+    go : (b : Bool) → allBelow n (λ i. not (P i)) ≡ b → not b ≡ ltb (firstBelow n P) n
+    go true e =
+        rw (
+          first-none P n (λ k l. not-true (P k) (all-at (λ i. not (P i)) n k l e)),
+          le-ltb n n (omega arith),
+        )
+    go false e =
+        let f = some-fails (λ i. not (P i)) n e in
+        let low = not-below (f .0) (not-false (P (f .0)) (f .2)) (decLt (f .0) (firstBelow n P)) in
+        sym (lt-ltb (firstBelow n P) n (omega (arith, f .1)))

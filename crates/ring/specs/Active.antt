@@ -45,10 +45,11 @@ byState x Relays p = 0
 byState x Carries p = byKind x (p .d) (p .b)
 byState x Leads p = flag (p .e) x
 
+-- how often x stands in an active position of a process
 abbrev pub inProc : ℕ → Proc → ℕ
 inProc x p = byState x (p .state) p
 
--- the value of every queued active message
+-- and of a queued message, whose value is one where it is active
 abbrev pub inMsg : ℕ → Msg → ℕ
 inMsg x m = byKind x (m .value) (m .kind)
 

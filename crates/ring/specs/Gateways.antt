@@ -18,11 +18,12 @@ use Rattle.ring.specs.Scan.{someBelow, firstBelow}
 use Rattle.ring.specs.Ring.{Take, wrong, right, Want, puts, takes, announces, stays, Ring, Rules, procOf}
 use Rattle.ring.specs.Runs.{Run, runFrom}
 
--- what a gateway took and asks for, as the ring has it
+-- what a gateway makes of a message, as the ring has it
 abbrev pub taken : Took → Take Proc
 taken (Becomes p) = right p
 taken Wrong = wrong
 
+-- what a gateway wants, as the ring has it
 abbrev pub wanted : Proc → Asked.Want → Want Proc Msg
 wanted p (Puts m q) = puts m q
 wanted p Takes = takes (λ m. taken (took p m))

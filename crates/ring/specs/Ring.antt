@@ -78,11 +78,12 @@ module _ {P M : Type 0} where
   ringAfter R (refused x) = R
   ringAfter R (made R′) = R′
 
-  -- the moves that a choice adds to those taken, and to those skipped
+  -- what a choice adds to the moves taken
   abbrev pub takenBy : Out P M → ℕ
   takenBy (refused x) = 0
   takenBy (made R′) = 1
 
+  -- and to the choices skipped
   abbrev pub skippedBy : Out P M → ℕ
   skippedBy (refused x) = 1
   skippedBy (made R′) = 0
@@ -93,10 +94,11 @@ pub record Rules (P M : Type 0) : Type 0 where
   pub nobody : P
 
 module _ {P M : Type 0} (G : Rules P M) where
-  -- process j, and what it wants
+  -- process j
   abbrev pub procOf : Ring P M → ℕ → P
   procOf R j = getD (R .procs) j (G .nobody)
 
+  -- what it wants
   abbrev pub wants : Ring P M → ℕ → Want P M
   wants R j = G .row j (procOf R j)
 

@@ -5,13 +5,15 @@ use mathlib.Core.List.{List, [], _∷_}
 use lib.Dec.{eqb}
 use Rattle.ring.specs.Ring.{Rules, Ring, move, ringAfter, takenBy, skippedBy}
 
--- the end numbers: no byte is left, the ring is over, taken equals the budget
+-- end number 0: no choice is left
 abbrev pub endUsedUp : ℕ
 endUsedUp = 0
 
+-- end number 1: the ring is over
 abbrev pub endOver : ℕ
 endOver = 1
 
+-- end number 2: taken equals the budget
 abbrev pub endSpent : ℕ
 endSpent = 2
 
@@ -22,6 +24,7 @@ pub record Run (P M : Type 0) : Type 0 where
   pub taken : ℕ
   pub skipped : ℕ
 
+-- it ends here
 abbrev pub ends : {P M : Type 0} → Ring P M → ℕ → ℕ → ℕ → Run P M
 ends R e t s = record { ring = R; end = e; taken = t; skipped = s }
 

@@ -1,6 +1,6 @@
 -- Tests over every index below a number.
 use Prim.Native.Nat.{ℕ, zero, suc}
-use mathlib.Core.Bool.{Bool, true, false, _&&_, not, cond}
+use mathlib.Core.Bool.{Bool, true, _&&_, not, cond}
 
 -- the test holds at every index below n
 abbrev pub allBelow : ℕ → (ℕ → Bool) → Bool

@@ -5,6 +5,9 @@ pub mod Blocks
 pub mod Records
 pub mod Tables
 pub mod Sound
+pub mod Formed
 pub mod Outside
+pub mod Kept
+pub mod Starts
 pub mod Told
 pub mod Refused

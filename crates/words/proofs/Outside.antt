@@ -1,15 +1,14 @@
--- Words beyond the table are neither read nor written: no outcome depends on them, and each leaves them. Assumes nothing.
+-- Words beyond the table are neither read nor written: no outcome depends on them, each leaves them. Assumes nothing.
 use Prim.Native.Nat.{ℕ, _+_, _<_, _≤_}
-use mathlib.Core.Path.{_≡_, refl, sym, ap, _∙_}
+use mathlib.Core.Path.{_≡_, refl, sym, ap}
 use mathlib.Core.Bool.{Bool, true, false, cond, not}
 use mathlib.Core.List.{List, _++_, append-assoc}
 use native.Mathlib.Omega.{arith}
 use borrow.Author.Tests.{le-leb, le-ltb}
-use lib.ListN.{length, getD, take, drop, length-append, length-drop, List·getD-append}
+use lib.ListN.{length, drop, length-append, length-drop, List·getD-append}
 use lib.Seq.{take-append-le, drop-append-le}
 use lib.Dec.{ltb}
 use Rattle.refusal.specs.declared.Refusal.the-variants.{Count, Capacity, Repeated, Malformed}
-use Rattle.refusal.specs.declared.Answer.{Answer}
 use Rattle.refusal.specs.declared.Answer.the-variants.{Done, Refused}
 use Rattle.gateway.specs.declared.Proc.{Proc}
 use Rattle.gateway.specs.declared.Msg.{Msg}
@@ -17,7 +16,6 @@ use Rattle.ring.specs.Ring.{Ring, Out, refused, made, move}
 use Rattle.ring.specs.Runs.{Run}
 use Rattle.ring.specs.Identities.{isFresh, firstRepeat}
 use Rattle.ring.specs.Gateways.{gateways, started, running}
-use Rattle.ring.specs.Scan.{allBelow}
 use Rattle.ring.proofs.Scans.{all-same}
 use Rattle.words.specs.declared.Ran.{Ran}
 use Rattle.words.specs.declared.Ran.the-variants as Ran

@@ -2,18 +2,17 @@
 -- Assumes nothing.
 use Prim.Native.Nat.{ℕ, zero, suc, _+_, _*_, _<_, _≤_}
 use mathlib.Core.Path.{_≡_, refl, sym, ap, _∙_}
-use mathlib.Core.Bool.{Bool, true, _&&_}
+use mathlib.Core.Bool.{true, _&&_}
 use mathlib.Core.List.{List, [], _∷_}
 use native.Mathlib.Nat.{not-suc-le-zero, le-of-suc-le-suc}
 use native.Mathlib.Omega.{arith}
-use borrow.Author.Tests.{leb-true, eqb-true, le-leb, eq-eqb, le-ltb, lt-ltb}
+use borrow.Author.Tests.{leb-true, eqb-true, le-leb, le-ltb, lt-ltb}
 use lib.ListN.{length, getD, drop}
-use lib.Dec.{leb, eqb, leb·suc-suc}
+use lib.Dec.{eqb, leb·suc-suc}
 use Rattle.gateway.specs.declared.Proc.{Proc}
 use Rattle.gateway.specs.declared.Msg.{Msg}
 use Rattle.gateway.specs.Numbers.{stateNumber, lastState, kindNumber, lastKind}
 use Rattle.gateway.proofs.Numbering.{state-back, state-number, state-small, kind-back, kind-number, kind-small}
-use Rattle.ring.specs.Scan.{allBelow}
 use Rattle.ring.proofs.Scans.{and-left, and-right, all-at, all-of}
 use Rattle.words.specs.Layout.{statePlace, bPlace, recordHead, recordWidth}
 use Rattle.words.specs.Table.{slotWords, recordWords, readProc, readSlots, lengthOf, readQueue}
@@ -52,17 +51,14 @@ read-queue c p q h = read-slots c q h
 -- the test of a slot, one slot on --
 
 module _ (v k : ℕ) (s : List ℕ) (i : ℕ) where
-  even : 2 * suc i ≡ suc (suc (2 * i))
-  even = omega arith
-
-  odd : 2 * suc i + 1 ≡ suc (suc (2 * i + 1))
-  odd = omega arith
+  next-place : (k : ℕ) → 2 * suc i + k ≡ suc (suc (2 * i + k))
+  next-place k = omega arith
 
   next-unfilled : slotOk 0 (v ∷ k ∷ s) (suc i) ≡ slotOk 0 s i
-  next-unfilled = rw (odd, even, le-ltb (suc i) 0 (omega arith), le-ltb i 0 (omega arith))
+  next-unfilled = rw (next-place 0, next-place 1, le-ltb (suc i) 0 (omega arith), le-ltb i 0 (omega arith))
 
   next-filled : (l : ℕ) → slotOk (suc l) (v ∷ k ∷ s) (suc i) ≡ slotOk l s i
-  next-filled l = rw (odd, even, leb·suc-suc (suc i) l)
+  next-filled l = rw (next-place 0, next-place 1, leb·suc-suc (suc i) l)
 
 -- well-formed words are those of what they read as --
 

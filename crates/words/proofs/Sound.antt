@@ -1,11 +1,11 @@
--- Well-formed words are those of a ring that fits, and the words of a ring that fits are well-formed. Assumes nothing.
-use Prim.Native.Nat.{ℕ, _+_, _*_, _<_, _≤_}
-use mathlib.Core.Path.{_≡_, refl, sym, ap, _∙_}
-use mathlib.Core.Bool.{Bool, true, false, _&&_, true≢false}
-use mathlib.Core.List.{List, [], _∷_, _++_}
+-- A well-formed table is the words of its ring, which fits it, with the rest behind. Assumes nothing.
+use Prim.Native.Nat.{ℕ, _*_, _<_, _≤_}
+use mathlib.Core.Path.{_≡_, sym, ap, _∙_}
+use mathlib.Core.Bool.{true, _&&_}
+use mathlib.Core.List.{List, [], _∷_}
 use native.Mathlib.Omega.{arith}
-use borrow.Author.Tests.{leb-true, le-leb}
-use lib.ListN.{length, getD, take, drop, length-drop}
+use borrow.Author.Tests.{leb-true}
+use lib.ListN.{length, take, drop, length-drop}
 use lib.Seq.{getD-take, getD-drop, length-take-le}
 use lib.Dec.{leb}
 use Rattle.gateway.specs.declared.Proc.{Proc}
@@ -13,36 +13,26 @@ use Rattle.gateway.specs.declared.Msg.{Msg}
 use Rattle.ring.specs.Ring.{Ring, queueOf}
 use Rattle.ring.specs.Identities.{DistinctBelow, isFresh}
 use Rattle.ring.specs.Gateways.{starting, procAt}
-use Rattle.ring.proofs.Scans.{and-left, and-right, all-at, all-of}
+use Rattle.ring.proofs.Scans.{and-left, and-right, all-at}
 use Rattle.ring.proofs.Good.{Good}
-use Rattle.ring.proofs.Identity.{fresh-distinct, distinct-fresh}
+use Rattle.ring.proofs.Identity.{same-distinct, fresh-distinct}
 use Rattle.words.specs.Layout.{mostProcesses, mostCapacity, recordHead, recordWidth, recordPlace, tableLength}
 use Rattle.words.specs.Table.{
   recordWords,
-  blocks,
   tableWords,
   countOf,
   capacityOf,
   recordAt,
-  restOf,
   readProc,
   readQueue,
   lengthOf,
-  firsts,
   ringOf,
 }
 use Rattle.words.specs.WellFormed.{inRange, longOk, sizesOk, identAt, identsOk, recordOk, recordsOk, wellFormed}
 use Rattle.words.specs.Outcomes.{rewritten}
 use Rattle.words.proofs.Blocks.{length-firsts, firsts-at, blocks-same, blocks-cut}
-use Rattle.words.proofs.Records.{length-read, length-fits, record-image, record-ok, read-proc}
-use Rattle.words.proofs.Tables.{
-  record-inside,
-  past-head,
-  count-back,
-  capacity-back,
-  table-long,
-  record-back,
-}
+use Rattle.words.proofs.Records.{length-read, length-fits, record-image}
+use Rattle.words.proofs.Tables.{record-inside, past-head}
 
 -- the sizes that document 01 allows
 pub record Sized (n c : ℕ) : Type 0 where
@@ -80,12 +70,7 @@ ident-word t j =
     let p = recordPlace (capacityOf t) j in
     getD-take (recordWidth (capacityOf t)) (drop p t) 0 0 (omega arith) ∙ getD-drop p t 0 0
 
--- identities that differ by one reading differ by another
-same-distinct : (n : ℕ) (f g : ℕ → ℕ) → ((j : ℕ) → j < n → f j ≡ g j) → DistinctBelow n f → DistinctBelow n g
-same-distinct n f g e d i j hi hj q = d i j hi hj (e i hi ∙ q ∙ sym (e j hj))
-
--- from the tests --
-
+-- what the tests of a well-formed table tell
 module _ (t : List ℕ) (ok : wellFormed t ≡ true) where
   upto-idents : (longOk t && sizesOk t && identsOk t) ≡ true
   unfolding wellFormed
@@ -158,7 +143,8 @@ module _ (n c : ℕ) (ws : List ℕ) (ok : wellFormed (n ∷ c ∷ ws) ≡ true)
       let t : List ℕ = n ∷ c ∷ ws in
       let w = recordWidth c in
       let room : n * w ≤ length ws = omega (arith, long t ok) in
-      let cut : (j : ℕ) → j < n → recordWords c (procAt (ringOf t) j) (queueOf (ringOf t) j) ≡ take w (drop (j * w) ws) =
+      let R = ringOf t in
+      let cut : (j : ℕ) → j < n → recordWords c (procAt R j) (queueOf R j) ≡ take w (drop (j * w) ws) =
       λ j h. rw (past-head c j) at (record-words t ok j h) in
       rw (past-head c n, blocks-same n _ _ cut) (ap (λ (x : List ℕ). n ∷ c ∷ x) (sym (blocks-cut w n ws room)))
 
@@ -176,47 +162,3 @@ formed-sound t ok = record {
   good = good t ok;
   image = formed-image t ok;
 }
-
--- and back to the tests --
-
-sizes-pass : (n c : ℕ) → Sized n c → (inRange mostProcesses n && inRange mostCapacity c) ≡ true
-sizes-pass n c s =
-    rw (
-      le-leb 1 n (s .some),
-      le-leb n mostProcesses (s .few),
-      le-leb 1 c (s .roomy),
-      le-leb c mostCapacity (s .small),
-    )
-
-all-pass : (t : List ℕ) → longOk t ≡ true → sizesOk t ≡ true → identsOk t ≡ true → recordsOk t ≡ true →
-    wellFormed t ≡ true
-unfolding wellFormed
-all-pass t a b c d = rw (a, b, c, d)
-
-module _ (n c : ℕ) (R : Ring Proc Msg) (rest : List ℕ) (s : Sized n c) (g : Good n c R) (d : DistinctIn n R) where
-  abbrev table : List ℕ
-  table = tableWords n c R ++ rest
-
-  record-is : (j : ℕ) → j < n →
-      recordAt table (capacityOf table) j ≡ recordWords c (procAt R j) (queueOf R j)
-  record-is j h = rw (capacity-back n c R rest) (record-back n c R rest j h)
-
-  ident-is : (j : ℕ) → j < n → procAt R j .ident ≡ identAt table j
-  ident-is j h =
-      sym (ap (λ (p : Proc). p .ident) (ap readProc (record-is j h) ∙ read-proc c (procAt R j) (queueOf R j)))
-      ∙ ident-word table j
-
-  -- the words of a ring that fits, of different identities, are well-formed
-  pub words-formed : wellFormed (tableWords n c R ++ rest) ≡ true
-  words-formed =
-      let cn = count-back n c R rest in
-      let cc = capacity-back n c R rest in
-      all-pass table
-      (rw (cn, cc) (le-leb _ _ (table-long n c R rest)))
-      (rw (cn, cc) (sizes-pass n c s))
-      (rw cn
-      (all-of (isFresh (identAt table)) n
-      (distinct-fresh (identAt table) n (same-distinct n (λ j. procAt R j .ident) (identAt table) ident-is d))))
-      (rw cn
-      (all-of (λ j. recordOk (capacityOf table) (recordAt table (capacityOf table) j)) n
-      (λ j h. rw (record-is j h, cc) (record-ok c (procAt R j) (queueOf R j) (g .fitting j h)))))

@@ -1,9 +1,6 @@
 -- The numbers of a run's answer, and of who leads, tell any two answers apart. Assumes nothing.
-use Prim.Native.Nat.{ℕ}
-use mathlib.Core.Path.{_≡_, refl, sym, ap}
+use mathlib.Core.Path.{_≡_, refl, ap}
 use native.Mathlib.Omega.{arith}
-use Rattle.refusal.specs.declared.Refusal.{Refusal}
-use Rattle.refusal.specs.Numbered.{numbered}
 use Rattle.refusal.proofs.Apart.{numbers-apart, numbered-never-zero}
 use Rattle.words.specs.declared.Ran.{Ran}
 use Rattle.words.specs.declared.Ran.the-variants.{Ended}

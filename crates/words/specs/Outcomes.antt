@@ -36,29 +36,32 @@ startOf t ids c =
 abbrev pub rewritten : List ℕ → Ring Proc Msg → List ℕ
 rewritten t R = tableWords (countOf t) (capacityOf t) R ++ restOf t
 
--- a step: 5, else what comes of the choice; a refusal leaves every word
+-- what a step leaves: a refusal changes no word
 abbrev pub stepped : List ℕ → Out Proc Msg → Answer × List ℕ
 stepped t (refused x) = (Refused x, t)
 stepped t (made R) = (Done, rewritten t R)
 
+-- a step of process j: 5, else what comes of the choice
 unfoldable pub stepOf : List ℕ → ℕ → Answer × List ℕ
 stepOf t j =
     cond (wellFormed t) (stepped t (move gateways (countOf t) (capacityOf t) (ringOf t) j)) (Refused Malformed, t)
 
--- a run of a schedule on a budget: 5, else where it ends
+-- what a run answers and leaves
 abbrev pub ran : List ℕ → Run Proc Msg → Ran × List ℕ
 ran t r = (Ran.Ended (r .end) (r .taken) (r .skipped), rewritten t (r .ring))
 
+-- a run of a schedule on a budget: 5, else where it ends
 unfoldable pub runOf : List ℕ → List ℕ → ℕ → Ran × List ℕ
 runOf t schedule budget =
     cond (wellFormed t)
     (ran t (running (countOf t) (capacityOf t) schedule (ringOf t) budget 0 0))
     (Ran.Refused Malformed, t)
 
--- who leads: 5, else the lowest process in state 6 with its d, or nobody; no word is lent to be written
+-- the lowest process in state 6 with its d, or nobody
 abbrev pub led : ℕ → Ring Proc Msg → Leading
 led n R = let j = leaderOf n R in cond (ltb j n) (Leading.Leader j (procAt R j .d)) Leading.Nobody
 
+-- who leads: 5, else that; no word is lent to be written
 unfoldable pub leadsOf : List ℕ → Leading
 leadsOf t = cond (wellFormed t) (led (countOf t) (ringOf t)) (Leading.Refused Malformed)
 
@@ -70,6 +73,7 @@ pub record RunTold : Type 0 where
   pub taken : ℕ
   pub skipped : ℕ
 
+-- number 0 with place 0 is a run; in a refusal end and counts are 0
 abbrev pub runTold : Ran → RunTold
 runTold (Ran.Ended e t s) = record { number = 0; place = 0; end = e; taken = t; skipped = s }
 runTold (Ran.Refused x) = record {
@@ -80,7 +84,7 @@ runTold (Ran.Refused x) = record {
   skipped = 0;
 }
 
--- who leads in numbers: found is 1 where somebody does
+-- who leads in document 01's numbers
 pub record LeadTold : Type 0 where
   pub number : ℕ
   pub place : ℕ
@@ -88,6 +92,7 @@ pub record LeadTold : Type 0 where
   pub process : ℕ
   pub value : ℕ
 
+-- found is 1 where somebody leads; where nobody does, and in a refusal, process and value are 0
 abbrev pub leadTold : Leading → LeadTold
 leadTold (Leading.Leader j v) = record { number = 0; place = 0; found = 1; process = j; value = v }
 leadTold Leading.Nobody = record { number = 0; place = 0; found = 0; process = 0; value = 0 }

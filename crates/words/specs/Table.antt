@@ -1,5 +1,5 @@
 -- The words of a ring, and the ring of a table's words.
-use Prim.Native.Nat.{ℕ, zero, suc, _+_}
+use Prim.Native.Nat.{ℕ, zero, suc}
 use mathlib.Core.List.{List, [], _∷_, _++_}
 use lib.ListN.{length, getD, take, drop}
 use Rattle.gateway.specs.declared.Proc.{Proc}
@@ -18,6 +18,8 @@ use Rattle.words.specs.Layout.{
   bPlace,
   lengthPlace,
   recordHead,
+  valuePlace,
+  kindPlace,
   slotWidth,
   recordWidth,
   recordPlace,
@@ -44,16 +46,19 @@ blocks (suc n) f = f 0 ++ blocks n (λ j. f (suc j))
 unfoldable pub tableWords : ℕ → ℕ → Ring Proc Msg → List ℕ
 tableWords n c R = n ∷ c ∷ blocks n (λ j. recordWords c (procAt R j) (queueOf R j))
 
--- n, c, record j, and what lies beyond the table
+-- the n of a table
 abbrev pub countOf : List ℕ → ℕ
 countOf t = getD t countPlace 0
 
+-- the c of a table
 abbrev pub capacityOf : List ℕ → ℕ
 capacityOf t = getD t capacityPlace 0
 
+-- the words of record j
 abbrev pub recordAt : List ℕ → ℕ → ℕ → List ℕ
 recordAt t c j = take (recordWidth c) (drop (recordPlace c j) t)
 
+-- the words beyond the table
 abbrev pub restOf : List ℕ → List ℕ
 restOf t = drop (tableLength (countOf t) (capacityOf t)) t
 
@@ -63,14 +68,16 @@ readProc r =
     proc (getD r identPlace 0) (stateOf (getD r statePlace 0)) (getD r dPlace 0) (getD r ePlace 0)
     (kindOf (getD r bPlace 0))
 
--- the messages of the first slots, as many as the queue is long
+-- the messages of the first n slots
 abbrev pub readSlots : ℕ → List ℕ → List Msg
 readSlots zero s = []
-readSlots (suc n) s = msg (getD s 0 0) (kindOf (getD s 1 0)) ∷ readSlots n (drop slotWidth s)
+readSlots (suc n) s = msg (getD s valuePlace 0) (kindOf (getD s kindPlace 0)) ∷ readSlots n (drop slotWidth s)
 
+-- the queue length of a record
 abbrev pub lengthOf : List ℕ → ℕ
 lengthOf r = getD r lengthPlace 0
 
+-- the queue of a record
 abbrev pub readQueue : List ℕ → List Msg
 readQueue r = readSlots (lengthOf r) (drop recordHead r)
 

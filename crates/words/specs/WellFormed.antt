@@ -14,6 +14,8 @@ use Rattle.words.specs.Layout.{
   statePlace,
   bPlace,
   recordHead,
+  valuePlace,
+  kindPlace,
   slotWidth,
   recordPlace,
   tableLength,
@@ -55,19 +57,22 @@ lengthOk c r = leb (lengthOf r) c
 -- the kind of a filled slot is 0 or 1, both words of an unfilled slot are 0
 abbrev pub slotOk : ℕ → List ℕ → ℕ → Bool
 slotOk len s i =
-    let value = getD s (slotWidth * i) 0 in
-    let kind = getD s (slotWidth * i + 1) 0 in
+    let value = getD s (slotWidth * i + valuePlace) 0 in
+    let kind = getD s (slotWidth * i + kindPlace) 0 in
     cond (ltb i len) (leb kind lastKind) (eqb value 0 && eqb kind 0)
 
+-- every slot of a record
 abbrev pub slotsOk : ℕ → List ℕ → Bool
 slotsOk c r = allBelow c (slotOk (lengthOf r) (drop recordHead r))
 
+-- a record
 abbrev pub recordOk : ℕ → List ℕ → Bool
 recordOk c r = stateOk r && bOk r && lengthOk c r && slotsOk c r
 
+-- every record
 abbrev pub recordsOk : List ℕ → Bool
 recordsOk t = allBelow (countOf t) (λ j. recordOk (capacityOf t) (recordAt t (capacityOf t) j))
 
--- all of it; anything else is malformed
+-- all of these; anything else is malformed
 unfoldable pub wellFormed : List ℕ → Bool
 wellFormed t = longOk t && sizesOk t && identsOk t && recordsOk t

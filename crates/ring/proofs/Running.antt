@@ -1,0 +1,56 @@
+-- Runs over any ring: what every move keeps a run keeps, and taken never exceeds the budget. Assumes nothing.
+use Prim.Native.Nat.{ℕ, _+_, _≤_}
+use mathlib.Core.Path.{_≡_, refl}
+use mathlib.Core.Bool.{Bool, true, false, cond}
+use mathlib.Core.List.{List, [], _∷_}
+use native.Mathlib.Omega.{arith}
+use borrow.Author.Tests.{eqb-false}
+use lib.Dec.{eqb}
+use Rattle.ring.specs.Ring.{Ring, Out, refused, made, Rules, move, ringAfter, takenBy, skippedBy}
+use Rattle.ring.specs.Runs.{Run, ends, endUsedUp, endOver, endSpent, runFrom}
+
+-- whichever test ends a run, it has what each of its ends has
+either : {A : Type 0} (I : A → Type 0) (b : Bool) (x y : A) → I x → I y → I (cond b x y)
+either I true x y hx hy = hx
+either I false x y hx hy = hy
+
+module _ {P M : Type 0} (G : Rules P M) (n c : ℕ) (isOver : Ring P M → Bool) where
+  -- a property of rings that every move keeps
+  module _ (I : Ring P M → Type 0)
+      (keeps : (R : Ring P M) (j : ℕ) (R′ : Ring P M) → I R → move G n c R j ≡ made R′ → I R′) where
+    choice-keeps : (R : Ring P M) (j : ℕ) → I R → I (ringAfter R (move G n c R j))
+    choice-keeps R j i = go (move G n c R j) refl
+      where
+        go : (o : Out P M) → move G n c R j ≡ o → I (ringAfter R o)
+        go (refused x) e = i
+        go (made R′) e = keeps R j R′ i e
+
+    pub run-keeps : (js : List ℕ) (R : Ring P M) (b t s : ℕ) → I R → I (runFrom G n c isOver js R b t s .ring)
+    unfolding runFrom
+    run-keeps [] R b t s i =
+        either (λ (r : Run P M). I (r .ring)) (isOver R) (ends R endOver t s) (ends R endUsedUp t s) i i
+    run-keeps (j ∷ js) R b t s i =
+        let o = move G n c R j in
+        let next = runFrom G n c isOver js (ringAfter R o) b (t + takenBy o) (s + skippedBy o) in
+        let later = run-keeps js (ringAfter R o) b (t + takenBy o) (s + skippedBy o) (choice-keeps R j i) in
+        let rest = either (λ (r : Run P M). I (r .ring)) (eqb t b) (ends R endSpent t s) next i later in
+        either (λ (r : Run P M). I (r .ring)) (isOver R) (ends R endOver t s) _ i rest
+
+  one-more : (o : Out P M) (t b : ℕ) → t ≤ b → (t ≡ b → ⊥) → t + takenBy o ≤ b
+  one-more (refused x) t b h ne = omega arith
+  one-more (made R′) t b h ne = omega arith
+
+  -- taken never exceeds the budget
+  pub taken-within : (js : List ℕ) (R : Ring P M) (b t s : ℕ) → t ≤ b → runFrom G n c isOver js R b t s .taken ≤ b
+  unfolding runFrom
+  taken-within [] R b t s h = either (λ (r : Run P M). r .taken ≤ b) (isOver R) _ _ h h
+  taken-within (j ∷ js) R b t s h =
+      let o = move G n c R j in
+      either (λ (r : Run P M). r .taken ≤ b) (isOver R) _ _ h
+      (go (runFrom G n c isOver js (ringAfter R o) b (t + takenBy o) (s + skippedBy o)) (eqb t b) refl
+      (λ ne. taken-within js (ringAfter R o) b (t + takenBy o) (s + skippedBy o) (one-more o t b h ne)))
+    where
+      go : (later : Run P M) (e : Bool) → eqb t b ≡ e → ((t ≡ b → ⊥) → later .taken ≤ b) →
+          cond e (ends R endSpent t s) later .taken ≤ b
+      go later true q l = h
+      go later false q l = l (eqb-false t b q)

@@ -1,0 +1,96 @@
+-- A start that is done leaves a well-formed table, of the started ring. Assumes nothing.
+use Prim.Native.Nat.{ℕ, _≤_}
+use mathlib.Core.Path.{_≡_, refl, sym, ap}
+use mathlib.Core.Bool.{Bool, true, false, cond, not}
+use mathlib.Core.List.{List, [], _∷_, _++_, map}
+use native.Mathlib.Omega.{arith}
+use borrow.Author.Tests.{leb-true, ltb-false, not-false}
+use lib.ListN.{length, getD, drop, length-map, List·getD-map}
+use lib.Dec.{ltb, leb}
+use Rattle.refusal.specs.declared.Refusal.{Refusal}
+use Rattle.refusal.specs.declared.Refusal.the-variants.{Count, Capacity, Short, Repeated}
+use Rattle.refusal.specs.declared.Answer.{Answer}
+use Rattle.refusal.specs.declared.Answer.the-variants.{Done, Refused}
+use Rattle.gateway.specs.declared.Proc.{Proc}
+use Rattle.gateway.specs.declared.Msg.{Msg}
+use Rattle.ring.specs.Identities.{identOf, Distinct, firstRepeat}
+use Rattle.ring.specs.Gateways.{starting, procAt, started}
+use Rattle.ring.proofs.Scans.{and-left, and-right}
+use Rattle.ring.proofs.Good.{Good}
+use Rattle.ring.proofs.Identity.{same-distinct, unrepeated-distinct}
+use Rattle.words.specs.Layout.{mostProcesses, mostCapacity, tableLength}
+use Rattle.words.specs.Table.{tableWords, ringOf}
+use Rattle.words.specs.WellFormed.{inRange, wellFormed}
+use Rattle.words.specs.Outcomes.{startOf}
+use Rattle.words.proofs.Tables.{ring-back}
+use Rattle.words.proofs.Sound.{Sized}
+use Rattle.words.proofs.Formed.{words-formed}
+
+no-messages : (ids : List ℕ) (j : ℕ) → getD (map {B = List Msg} (λ i. []) ids) j [] ≡ []
+no-messages [] j = refl
+no-messages (i ∷ ids) ℕ.zero = refl
+no-messages (i ∷ ids) (ℕ.suc j) = no-messages ids j
+
+pub started-good : (ids : List ℕ) (c : ℕ) → Good (length ids) c (started ids)
+unfolding started
+started-good ids c = record {
+  procs = length-map ids starting;
+  queues = length-map ids (λ i. []);
+  fitting = λ j h. rw (no-messages ids j) (omega arith);
+}
+
+pub started-ident : (ids : List ℕ) (j : ℕ) → procAt (started ids) j .ident ≡ identOf ids j
+unfolding started
+started-ident ids j = ap (λ (p : Proc). p .ident) (List·getD-map starting ids j 0)
+
+-- what a start that was not refused found, and what it left
+pub record Ready (t ids : List ℕ) (c : ℕ) : Type 0 where
+  pub sized : Sized (length ids) c
+  pub distinct : Distinct ids
+  pub words : startOf t ids c .1 ≡ tableWords (length ids) c (started ids) ++ drop (tableLength (length ids) c) t
+
+-- a test that would have refused did not
+passed : (b : Bool) (x : Refusal) (t : List ℕ) (o : Answer × List ℕ) → cond b (Refused x, t) o .0 ≡ Done →
+    (b ≡ false) × (o .0 ≡ Done)
+passed true x t o e = let z : _≡_ {A = ℕ} 0 1 = cc in absurd (omega arith)
+passed false x t o e = (refl, e)
+
+range-is : (most n : ℕ) → not (inRange most n) ≡ false → (1 ≤ n) × (n ≤ most)
+range-is most n e =
+    let r = not-false (inRange most n) e in
+    (leb-true 1 n (and-left (leb 1 n) (leb n most) r), leb-true n most (and-right (leb 1 n) (leb n most) r))
+
+pub start-ready : (t ids : List ℕ) (c : ℕ) → startOf t ids c .0 ≡ Done → Ready t ids c
+unfolding startOf
+start-ready t ids c done =
+    let n = length ids in
+    let p1 = passed (not (inRange mostProcesses n)) Count t _ done in
+    let p2 = passed (not (inRange mostCapacity c)) Capacity t _ (p1 .1) in
+    let p3 = passed (ltb (length t) (tableLength n c)) Short t _ (p2 .1) in
+    let p4 = passed (ltb (firstRepeat ids) n) (Repeated (firstRepeat ids)) t _ (p3 .1) in
+    let rn = range-is mostProcesses n (p1 .0) in
+    let rc = range-is mostCapacity c (p2 .0) in
+    record {
+      sized = record { some = rn .0; few = rn .1; roomy = rc .0; small = rc .1 };
+      distinct = unrepeated-distinct ids (ltb-false (firstRepeat ids) n (p4 .0));
+      words = rw (p1 .0, p2 .0, p3 .0, p4 .0);
+    }
+
+module _ (t ids : List ℕ) (c : ℕ) (done : startOf t ids c .0 ≡ Done) where
+  ready : Ready t ids c
+  ready = start-ready t ids c done
+
+  -- a start that is done leaves a well-formed table
+  pub start-formed : wellFormed (startOf t ids c .1) ≡ true
+  start-formed =
+      rw (ready .words)
+      (words-formed (length ids) c (started ids) (drop (tableLength (length ids) c) t) (ready .sized)
+      (started-good ids c)
+      (same-distinct (length ids) (identOf ids) (λ j. procAt (started ids) j .ident)
+      (λ j h. sym (started-ident ids j)) (ready .distinct)))
+
+  -- and its ring is the started ring
+  pub start-ring : ringOf (startOf t ids c .1) ≡ started ids
+  start-ring =
+      rw (ready .words)
+      (ring-back (length ids) c (started ids) (drop (tableLength (length ids) c) t) (started-good ids c))
