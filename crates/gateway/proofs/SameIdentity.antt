@@ -1,9 +1,8 @@
 -- No row changes the identity of a process. Assumes nothing.
-use Prim.Native.Nat.{ℕ, _<_}
+use Prim.Native.Nat.{ℕ, max, _<_}
 use mathlib.Core.Path.{_≡_, refl}
 use mathlib.Core.Logic.{ite}
 use native.Mathlib.Decide.{decLt, ℕ-discrete}
-use Prim.Native.Nat.{max}
 use Rattle.gateway.specs.declared.State.{State}
 use Rattle.gateway.specs.declared.State.the-variants.{Sends, Listens, Compares, Decides, Relays, Carries, Leads}
 use Rattle.gateway.specs.declared.Kind.{Kind}
