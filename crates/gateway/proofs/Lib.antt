@@ -3,3 +3,4 @@ pub mod Examples
 pub mod Tests
 pub mod Numbering
 pub mod SameIdentity
+pub mod Settled

@@ -78,6 +78,7 @@ fn in_state(p: Proc, s: State) -> Proc
     }
 }
 
+// The larger of two values.
 fn larger(x: u32, y: u32) -> u32
     ensures { λ r. ⌜ r ≡ max x y ⌝ }
 {

@@ -1,2 +1,3 @@
 -- What is proved of the refusals' numbers.
 pub mod Apart
+pub mod Settled

@@ -1,5 +1,6 @@
 -- Laws of a ring.
 pub mod Examples
+pub mod Tests
 pub mod Scans
 pub mod Moves
 pub mod Good

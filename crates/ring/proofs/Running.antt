@@ -8,11 +8,7 @@ use borrow.Author.Tests.{eqb-false}
 use lib.Dec.{eqb}
 use Rattle.ring.specs.Ring.{Ring, Out, refused, made, Rules, move, ringAfter, takenBy, skippedBy}
 use Rattle.ring.specs.Runs.{Run, ends, endUsedUp, endOver, endSpent, runFrom}
-
--- whichever test ends a run, it has what each of its ends has
-either : {A : Type 0} (I : A → Type 0) (b : Bool) (x y : A) → I x → I y → I (cond b x y)
-either I true x y hx hy = hx
-either I false x y hx hy = hy
+use Rattle.ring.proofs.Tests.{either}
 
 module _ {P M : Type 0} (G : Rules P M) (n c : ℕ) (isOver : Ring P M → Bool) where
   -- a property of rings that every move keeps

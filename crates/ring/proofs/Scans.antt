@@ -9,14 +9,7 @@ use native.Mathlib.Omega.{arith}
 use borrow.Author.Tests.{lt-ltb, le-ltb, not-true, not-false}
 use lib.Dec.{ltb}
 use Rattle.ring.specs.Scan.{allBelow, someBelow, firstBelow}
-
-pub and-left : (a b : Bool) → (a && b) ≡ true → a ≡ true
-and-left true b e = refl
-and-left false b e = e
-
-pub and-right : (a b : Bool) → (a && b) ≡ true → b ≡ true
-and-right true b e = e
-and-right false b e = let z : _≡_ {A = Bool} false true = e in cc
+use Rattle.ring.proofs.Tests.{and-left, and-right}
 
 module _ (P : ℕ → Bool) where
   -- every index below passes

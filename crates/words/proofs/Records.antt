@@ -13,7 +13,8 @@ use Rattle.gateway.specs.declared.Proc.{Proc}
 use Rattle.gateway.specs.declared.Msg.{Msg}
 use Rattle.gateway.specs.Numbers.{stateNumber, lastState, kindNumber, lastKind}
 use Rattle.gateway.proofs.Numbering.{state-back, state-number, state-small, kind-back, kind-number, kind-small}
-use Rattle.ring.proofs.Scans.{and-left, and-right, all-at, all-of}
+use Rattle.ring.proofs.Tests.{and-left, and-right}
+use Rattle.ring.proofs.Scans.{all-at, all-of}
 use Rattle.words.specs.Layout.{statePlace, bPlace, recordHead, recordWidth}
 use Rattle.words.specs.Table.{slotWords, recordWords, readProc, readSlots, lengthOf, readQueue}
 use Rattle.words.specs.WellFormed.{stateOk, bOk, lengthOk, slotOk, slotsOk, recordOk}

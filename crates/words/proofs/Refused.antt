@@ -15,6 +15,7 @@ use Rattle.ring.specs.Ring.{Out, refused, made, move}
 use Rattle.ring.specs.Runs.{Run}
 use Rattle.ring.specs.Identities.{firstRepeat}
 use Rattle.ring.specs.Gateways.{gateways, running}
+use Rattle.ring.proofs.Tests.{either}
 use Rattle.words.specs.declared.Ran.{Ran}
 use Rattle.words.specs.declared.Ran.the-variants as Ran
 use Rattle.words.specs.Layout.{mostProcesses, mostCapacity, tableLength}
@@ -26,31 +27,28 @@ use Rattle.words.specs.Outcomes.{startOf, stepped, stepOf, ran, runOf}
 abbrev Leaves : List ℕ → Refusal → Answer × List ℕ → Type 0
 Leaves t x o = o .0 ≡ Refused x → o .1 ≡ t
 
--- a refusal leaves t, and so does a choice between outcomes that do
+-- a refusal leaves t
 refusing : (t : List ℕ) (x y : Refusal) → Leaves t x (Refused y, t)
 refusing t x y e = refl
 
+-- and what is done is none
 done : (t u : List ℕ) (x : Refusal) → Leaves t x (Done, u)
 done t u x e = cc
-
-either : (t : List ℕ) (x : Refusal) (b : Bool) (o p : Answer × List ℕ) → Leaves t x o → Leaves t x p →
-    Leaves t x (cond b o p)
-either t x true o p ho hp = ho
-either t x false o p ho hp = hp
 
 pub start-refused : (t ids : List ℕ) (c : ℕ) (x : Refusal) → startOf t ids c .0 ≡ Refused x → startOf t ids c .1 ≡ t
 unfolding startOf
 start-refused t ids c x =
-    either t x (not (inRange mostProcesses (length ids))) _ _ (refusing t x Count)
-    (either t x (not (inRange mostCapacity c)) _ _ (refusing t x Capacity)
-    (either t x (ltb (length t) (tableLength (length ids) c)) _ _ (refusing t x Short)
-    (either t x (ltb (firstRepeat ids) (length ids)) _ _ (refusing t x (Repeated (firstRepeat ids))) (done t _ x))))
+    either (Leaves t x) (not (inRange mostProcesses (length ids))) _ _ (refusing t x Count)
+    (either (Leaves t x) (not (inRange mostCapacity c)) _ _ (refusing t x Capacity)
+    (either (Leaves t x) (ltb (length t) (tableLength (length ids) c)) _ _ (refusing t x Short)
+    (either (Leaves t x) (ltb (firstRepeat ids) (length ids)) _ _ (refusing t x (Repeated (firstRepeat ids)))
+    (done t _ x))))
 
 pub step-refused : (t : List ℕ) (j : ℕ) (x : Refusal) → stepOf t j .0 ≡ Refused x → stepOf t j .1 ≡ t
 unfolding stepOf
 step-refused t j x =
     let o = move gateways (countOf t) (capacityOf t) (ringOf t) j in
-    either t x (wellFormed t) (stepped t o) (Refused Malformed, t) (by o) (refusing t x Malformed)
+    either (Leaves t x) (wellFormed t) (stepped t o) (Refused Malformed, t) (by o) (refusing t x Malformed)
   where
     by : (o : Out Proc Msg) → Leaves t x (stepped t o)
     by (refused y) = refusing t x y

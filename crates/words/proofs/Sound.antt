@@ -13,7 +13,8 @@ use Rattle.gateway.specs.declared.Msg.{Msg}
 use Rattle.ring.specs.Ring.{Ring, queueOf}
 use Rattle.ring.specs.Identities.{DistinctBelow, isFresh}
 use Rattle.ring.specs.Gateways.{starting, procAt}
-use Rattle.ring.proofs.Scans.{and-left, and-right, all-at}
+use Rattle.ring.proofs.Tests.{and-left, and-right}
+use Rattle.ring.proofs.Scans.{all-at}
 use Rattle.ring.proofs.Good.{Good}
 use Rattle.ring.proofs.Identity.{same-distinct, fresh-distinct}
 use Rattle.words.specs.Layout.{mostProcesses, mostCapacity, recordHead, recordWidth, recordPlace, tableLength}

@@ -15,7 +15,7 @@ use Rattle.gateway.specs.declared.Proc.{Proc}
 use Rattle.gateway.specs.declared.Msg.{Msg}
 use Rattle.ring.specs.Identities.{identOf, Distinct, firstRepeat}
 use Rattle.ring.specs.Gateways.{starting, procAt, started}
-use Rattle.ring.proofs.Scans.{and-left, and-right}
+use Rattle.ring.proofs.Tests.{and-left, and-right}
 use Rattle.ring.proofs.Good.{Good}
 use Rattle.ring.proofs.Identity.{same-distinct, unrepeated-distinct}
 use Rattle.words.specs.Layout.{mostProcesses, mostCapacity, tableLength}
