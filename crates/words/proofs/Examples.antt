@@ -61,6 +61,9 @@ pub record Steps : Type 0 where
       ≡ 2 ∷ 1 ∷ 5 ∷ 2 ∷ 5 ∷ 9 ∷ 0 ∷ 0 ∷ 0 ∷ 0 ∷ 9 ∷ 1 ∷ 9 ∷ 0 ∷ 0 ∷ 0 ∷ 0 ∷ 0 ∷ []
   -- well-formed, though no start reaches it
   pub unreached : stepTold (1 ∷ 1 ∷ 7 ∷ 4 ∷ 7 ∷ 7 ∷ 0 ∷ 0 ∷ 0 ∷ 0 ∷ []) 0 ≡ tell 7 0
+  -- a refusal leaves every word
+  pub refused-leaves : stepOf (1 ∷ 1 ∷ 7 ∷ 4 ∷ 7 ∷ 7 ∷ 0 ∷ 0 ∷ 0 ∷ 0 ∷ []) 0 .1
+      ≡ 1 ∷ 1 ∷ 7 ∷ 4 ∷ 7 ∷ 7 ∷ 0 ∷ 0 ∷ 0 ∷ 0 ∷ []
   pub no-process : stepTold (1 ∷ 1 ∷ 7 ∷ 4 ∷ 7 ∷ 7 ∷ 0 ∷ 0 ∷ 0 ∷ 0 ∷ []) 1 ≡ tell 6 1
 
 pub steps : Steps
@@ -71,6 +74,7 @@ steps = record {
   put-behind = refl;
   round-the-ring = refl;
   unreached = refl;
+  refused-leaves = refl;
   no-process = refl;
 }
 
