@@ -5,6 +5,7 @@ pub mod Scans
 pub mod Moves
 pub mod Good
 pub mod Identity
+pub mod Largest
 pub mod SameIdentities
 pub mod Running
 pub mod Leaders

@@ -1,4 +1,4 @@
--- Document 01's conditions for a well-formed table, each broken alone at a small table, computed. Assumes nothing.
+-- Document 01's conditions for a well-formed table, each broken at a small table, computed. Assumes nothing.
 use mathlib.Core.Path.{_≡_, refl}
 use mathlib.Core.Bool.{true, false}
 use mathlib.Core.List.{[], _∷_}

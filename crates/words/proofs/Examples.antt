@@ -64,6 +64,7 @@ pub record Steps : Type 0 where
   -- a refusal leaves every word
   pub refused-leaves : stepOf (1 ∷ 1 ∷ 7 ∷ 4 ∷ 7 ∷ 7 ∷ 0 ∷ 0 ∷ 0 ∷ 0 ∷ []) 0 .1
       ≡ 1 ∷ 1 ∷ 7 ∷ 4 ∷ 7 ∷ 7 ∷ 0 ∷ 0 ∷ 0 ∷ 0 ∷ []
+  pub malformed : stepTold (1 ∷ 1 ∷ 7 ∷ 4 ∷ 7 ∷ 7 ∷ 2 ∷ 0 ∷ 0 ∷ 0 ∷ []) 0 ≡ tell 5 0
   pub no-process : stepTold (1 ∷ 1 ∷ 7 ∷ 4 ∷ 7 ∷ 7 ∷ 0 ∷ 0 ∷ 0 ∷ 0 ∷ []) 1 ≡ tell 6 1
 
 pub steps : Steps
@@ -75,6 +76,7 @@ steps = record {
   round-the-ring = refl;
   unreached = refl;
   refused-leaves = refl;
+  malformed = refl;
   no-process = refl;
 }
 
@@ -93,6 +95,11 @@ pub record Ring59 : Type 0 where
   pub counts : runOf start59 turns 24 .0 ≡ Ended 1 13 2
   pub leader : leadsOf end59 ≡ Leader 0 9
   pub nobody : leadsOf start59 ≡ Nobody
+  -- a run's answer in numbers, and its other two ends
+  pub run-told : runTold (runOf start59 turns 24 .0)
+      ≡ record { number = 0; place = 0; end = 1; taken = 13; skipped = 2 }
+  pub used-up : runOf start59 (0 ∷ 1 ∷ []) 24 .0 ≡ Ended 0 2 0
+  pub spent : runOf start59 turns 2 .0 ≡ Ended 2 2 0
   -- in a refusal every value is 0
   pub run-refused : runTold (runOf (1 ∷ []) turns 24 .0)
       ≡ record { number = 5; place = 0; end = 0; taken = 0; skipped = 0 }
@@ -106,6 +113,23 @@ ring59 = record {
   counts = refl;
   leader = refl;
   nobody = refl;
+  run-told = refl;
+  used-up = refl;
+  spent = refl;
   run-refused = refl;
   leads-refused = refl;
 }
+
+-- processes 1 and 2 in state 6, with d 3 and 4: the lower leads, with its d and neither its e nor its identity
+abbrev both : List ℕ
+both =
+    3 ∷ 1 ∷ 5 ∷ 4 ∷ 0 ∷ 0 ∷ 0 ∷ 0 ∷ 0 ∷ 0 ∷ 9 ∷ 6 ∷ 3 ∷ 8 ∷ 1 ∷ 0 ∷ 0 ∷ 0
+    ∷ 7 ∷ 6 ∷ 4 ∷ 8 ∷ 0 ∷ 0 ∷ 0 ∷ 0 ∷ []
+
+pub record Leaders : Type 0 where
+  pub lower : leadTold (leadsOf both) ≡ record { number = 0; place = 0; found = 1; process = 1; value = 3 }
+  pub nobody : leadTold (leadsOf start59) ≡ record { number = 0; place = 0; found = 0; process = 0; value = 0 }
+
+pub leaders : Leaders
+unfolding leadsOf wellFormed ringOf leaderOf
+leaders = record { lower = refl; nobody = refl }
