@@ -1,6 +1,4 @@
 -- Laws of one process.
 pub mod Examples
-pub mod Tests
 pub mod Numbering
 pub mod SameIdentity
-pub mod Settled

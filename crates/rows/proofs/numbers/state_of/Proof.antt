@@ -1,9 +1,9 @@
--- `gateway::numbers::state_of` is the state of a number. Assumes nothing.
+-- `rows::numbers::state_of` is the state of a number. Assumes nothing.
 use native.Mathlib.Omega.{arith}
 use borrow.Author.Needs.{needs}
 use Rattle.gateway.proofs.Numbering.{state-past}
-use Rattle.gateway.proofs.numbers.state_of.Statement.{statement}
-use Rattle.gateway.proofs.numbers.state_of.Tie as tie
+use Rattle.rows.proofs.numbers.state_of.Statement.{statement}
+use Rattle.rows.proofs.numbers.state_of.Tie as tie
 
 returns-7 : tie.Need-returns-7
 returns-7 c =

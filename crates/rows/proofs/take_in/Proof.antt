@@ -1,7 +1,7 @@
--- `gateway::take_in` is what a process makes of a message. Assumes nothing.
+-- `rows::take_in` is what a process makes of a message. Assumes nothing.
 use borrow.Author.Needs.{needs}
-use Rattle.gateway.proofs.take_in.Statement.{statement}
-use Rattle.gateway.proofs.take_in.Tie as tie
+use Rattle.rows.proofs.take_in.Statement.{statement}
+use Rattle.rows.proofs.take_in.Tie as tie
 
 returns-2 : tie.Need-returns-2
 returns-2 c = rw (c .before .before .enum-told2 .given .1, c .enum-told3 .given .1)

@@ -1,8 +1,8 @@
--- `gateway::wants` is the row of the process's state. Assumes nothing.
+-- `rows::wants` is the row of the process's state. Assumes nothing.
 use borrow.Author.Needs.{needs}
-use Rattle.gateway.proofs.Tests.{ite-eq, ite-ne}
-use Rattle.gateway.proofs.wants.Statement.{statement}
-use Rattle.gateway.proofs.wants.Tie as tie
+use Rattle.rows.proofs.Tests.{ite-eq, ite-ne}
+use Rattle.rows.proofs.wants.Statement.{statement}
+use Rattle.rows.proofs.wants.Tie as tie
 
 returns : tie.Need-returns
 returns c =

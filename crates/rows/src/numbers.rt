@@ -1,8 +1,8 @@
 // The numbers of states and kinds, as words and frames have them, and back.
-use crate::Kind;
-use crate::State;
+use gateway::Kind;
+use gateway::State;
 ghost use mathlib.Core.Path.{_≡_};
 ghost use Rattle.gateway.specs.Numbers.{stateNumber, stateOf, kindNumber, kindOf};
 
 pub fn state_number(s: State) -> u32
     ensures { λ r. ⌜ r ≡ stateNumber s ⌝ }

@@ -1,10 +1,10 @@
--- `gateway::decided` is state 3 of the table. Assumes nothing.
+-- `rows::decided` is state 3 of the table. Assumes nothing.
 use mathlib.Core.Path.{sym}
 use native.Mathlib.Omega.{arith}
 use borrow.Author.Needs.{needs}
-use Rattle.gateway.proofs.Tests.{ite-lt, ite-le}
-use Rattle.gateway.proofs.decided.Statement.{statement}
-use Rattle.gateway.proofs.decided.Tie as tie
+use Rattle.rows.proofs.Tests.{ite-lt, ite-le}
+use Rattle.rows.proofs.decided.Statement.{statement}
+use Rattle.rows.proofs.decided.Tie as tie
 
 returns : tie.Need-returns
 returns c = sym (ite-lt (omega (arith, c .before .before .larger .ensures, c .if1 .taken)) _ _)
