@@ -12,7 +12,7 @@ use Rattle.ring.specs.Gateways.{started}
 use Rattle.words.specs.Table.{recordWords, tableWords, ringOf}
 use Rattle.words.specs.WellFormed.{wellFormed}
 use Rattle.words.specs.Outcomes.{startOf, stepOf}
-use Rattle.frame.specs.Frames.{writeOf}
+use Rattle.wire.specs.Frames.{writeOf}
 
 -- an outcome with its answer in numbers
 abbrev pub inNumbers : Answer × List ℕ → Told × List ℕ

@@ -33,71 +33,57 @@ pub struct Told {
     pub place: u32,
 }
 
-// The number and the place of a refusal.
+fn number(r: Refusal) -> u32
+    ensures { λ x. ⌜ x ≡ numbered r .number ⌝ }
+{
+    match r {
+        Refusal::Count => 1,
+        Refusal::Capacity => 2,
+        Refusal::Short => 3,
+        Refusal::Repeated(_) => 4,
+        Refusal::Malformed => 5,
+        Refusal::NoProcess(_) => 6,
+        Refusal::Empty(_) => 7,
+        Refusal::Full(_) => 8,
+        Refusal::WrongKind(_) => 9,
+        Refusal::Over(_) => 10,
+        Refusal::NoByte => 11,
+        Refusal::UnknownKind => 12,
+        Refusal::Cut(_) => 13,
+        Refusal::NoRoom => 14,
+        Refusal::NoFrame => 15,
+    }
+}
+
+fn place(r: Refusal) -> u32
+    ensures { λ x. ⌜ x ≡ numbered r .place ⌝ }
+{
+    match r {
+        Refusal::Count => 0,
+        Refusal::Capacity => 0,
+        Refusal::Short => 0,
+        Refusal::Repeated(i) => i,
+        Refusal::Malformed => 0,
+        Refusal::NoProcess(n) => n,
+        Refusal::Empty(j) => j,
+        Refusal::Full(j) => j,
+        Refusal::WrongKind(j) => j,
+        Refusal::Over(j) => j,
+        Refusal::NoByte => 0,
+        Refusal::UnknownKind => 0,
+        Refusal::Cut(k) => k,
+        Refusal::NoRoom => 0,
+        Refusal::NoFrame => 0,
+    }
+}
+
+// The number and the place of a refusal. Apart they compile to a sum and a bit test, as pairs to a jump table.
 pub fn numbers(r: Refusal) -> Told
     ensures { λ x. ⌜ x ≡ numbered r ⌝ }
 {
-    match r {
-        Refusal::Count => Told {
-            number: 1,
-            place: 0,
-        },
-        Refusal::Capacity => Told {
-            number: 2,
-            place: 0,
-        },
-        Refusal::Short => Told {
-            number: 3,
-            place: 0,
-        },
-        Refusal::Repeated(i) => Told {
-            number: 4,
-            place: i,
-        },
-        Refusal::Malformed => Told {
-            number: 5,
-            place: 0,
-        },
-        Refusal::NoProcess(n) => Told {
-            number: 6,
-            place: n,
-        },
-        Refusal::Empty(j) => Told {
-            number: 7,
-            place: j,
-        },
-        Refusal::Full(j) => Told {
-            number: 8,
-            place: j,
-        },
-        Refusal::WrongKind(j) => Told {
-            number: 9,
-            place: j,
-        },
-        Refusal::Over(j) => Told {
-            number: 10,
-            place: j,
-        },
-        Refusal::NoByte => Told {
-            number: 11,
-            place: 0,
-        },
-        Refusal::UnknownKind => Told {
-            number: 12,
-            place: 0,
-        },
-        Refusal::Cut(k) => Told {
-            number: 13,
-            place: k,
-        },
-        Refusal::NoRoom => Told {
-            number: 14,
-            place: 0,
-        },
-        Refusal::NoFrame => Told {
-            number: 15,
-            place: 0,
-        },
+    Told {
+        number: number(r),
+        place: place(r),
     }
 }
 

@@ -33,6 +33,9 @@ pub fn state_of(w: u32) -> State
     }
 }
 
+// The largest number of a kind.
+pub const LAST_KIND: u32 = 1;
+
 pub fn kind_number(k: Kind) -> u32
     ensures { λ r. ⌜ r ≡ kindNumber k ⌝ }
 {

@@ -19,13 +19,13 @@ use Rattle.refusal.specs.declared.Refusal.the-variants.{NoRoom}
 use Rattle.refusal.specs.declared.Answer.{Answer}
 use Rattle.refusal.specs.declared.Answer.the-variants.{Done}
 use Rattle.refusal.proofs.Apart.{numbers-apart, numbered-never-zero}
-use Rattle.frame.specs.declared.Order.{Order}
-use Rattle.frame.specs.declared.Head.{Head}
-use Rattle.frame.specs.declared.Head.the-variants.{Frame, NoHead}
-use Rattle.frame.specs.declared.Reading.{Reading}
-use Rattle.frame.specs.declared.Reading.the-variants.{Message, Refused}
-use Rattle.frame.specs.Bytes.{AllBytes, field}
-use Rattle.frame.specs.Frames.{
+use Rattle.wire.specs.declared.Order.{Order}
+use Rattle.wire.specs.declared.Head.{Head}
+use Rattle.wire.specs.declared.Head.the-variants.{Frame, NoHead}
+use Rattle.wire.specs.declared.Reading.{Reading}
+use Rattle.wire.specs.declared.Reading.the-variants.{Message, Refused}
+use Rattle.wire.specs.Bytes.{AllBytes, field}
+use Rattle.wire.specs.Frames.{
   bodyLength,
   frameLength,
   frameOf,
@@ -37,9 +37,9 @@ use Rattle.frame.specs.Frames.{
   writeOf,
   readTold,
 }
-use Rattle.frame.proofs.Digits.{length-field, value-field}
-use Rattle.frame.proofs.Heads.{head-back, head-for, order-sent, sent-by}
-use Rattle.frame.proofs.Readable.{begins-read, read-begins, begins-more, begins-small, begins-frame}
+use Rattle.wire.proofs.Digits.{length-field, value-field}
+use Rattle.wire.proofs.Heads.{head-back, head-for, order-sent, sent-by}
+use Rattle.wire.proofs.Readable.{begins-read, read-begins, begins-more, begins-small, begins-frame}
 
 -- a frame has the length that the kind fixes
 pub length-frame : (o : Order) (m : Msg) → length (frameOf o m) ≡ frameLength (m .kind)

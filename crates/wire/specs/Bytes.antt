@@ -1,12 +1,16 @@
 -- Numbers as bytes, at any width and in either order.
 use Prim.Native.Nat.{ℕ, zero, suc, _+_, _*_, _/_, _%_, _<_}
 use mathlib.Core.List.{List, [], _∷_, reverse}
-use Rattle.frame.specs.declared.Order.{Order}
-use Rattle.frame.specs.declared.Order.the-variants.{High, Low}
+use Rattle.wire.specs.declared.Order.{Order}
+use Rattle.wire.specs.declared.Order.the-variants.{High, Low}
 
 -- how many values a byte has
 abbrev pub byteValues : ℕ
 byteValues = 256
+
+-- how many bytes a 32-bit word has
+abbrev pub wordBytes : ℕ
+wordBytes = 4
 
 -- every element is a byte
 abbrev pub AllBytes : List ℕ → Type 0

@@ -12,14 +12,14 @@ use Rattle.gateway.specs.declared.Kind.{Kind}
 use Rattle.gateway.specs.declared.Msg.{Msg}
 use Rattle.gateway.specs.Row.{msg}
 use Rattle.refusal.specs.declared.Refusal.{Refusal}
-use Rattle.frame.specs.declared.Order.{Order}
-use Rattle.frame.specs.declared.Head.{Head}
-use Rattle.frame.specs.declared.Head.the-variants.{Frame, NoHead}
-use Rattle.frame.specs.declared.Reading.the-variants.{Message, Refused}
-use Rattle.frame.specs.Bytes.{AllBytes, valueOf}
-use Rattle.frame.specs.Frames.{bodyLength, frameLength, frameOf, headOf, bodyOf, readAs, readOf}
-use Rattle.frame.proofs.Digits.{bytes-take, bytes-drop, field-value, value-fits}
-use Rattle.frame.proofs.Heads.{head-byte}
+use Rattle.wire.specs.declared.Order.{Order}
+use Rattle.wire.specs.declared.Head.{Head}
+use Rattle.wire.specs.declared.Head.the-variants.{Frame, NoHead}
+use Rattle.wire.specs.declared.Reading.the-variants.{Message, Refused}
+use Rattle.wire.specs.Bytes.{AllBytes, valueOf}
+use Rattle.wire.specs.Frames.{bodyLength, frameLength, frameOf, headOf, bodyOf, readAs, readOf}
+use Rattle.wire.proofs.Digits.{bytes-take, bytes-drop, field-value, value-fits}
+use Rattle.wire.proofs.Heads.{head-byte}
 
 -- s begins with a kind byte of m's kind and a whole body, which holds m's value in the order that the byte names
 pub record Begins (s : List ℕ) (m : Msg) : Type 0 where

@@ -7,8 +7,9 @@ use Rattle.gateway.specs.declared.Kind.the-variants.{Passive, Active}
 use Rattle.gateway.specs.Row.{msg}
 use Rattle.refusal.specs.declared.Told.{Told}
 use Rattle.refusal.specs.Numbered.{tell, told}
-use Rattle.frame.specs.declared.Reading.the-variants.{Message}
-use Rattle.frame.specs.Frames.{readOf, writeOf, ReadTold, readTold}
+use Rattle.wire.specs.declared.Reading.the-variants.{Message}
+use Rattle.wire.specs.declared.ReadTold.{ReadTold}
+use Rattle.wire.specs.Frames.{readOf, writeOf, readTold}
 
 pub high-active : readOf (0x41 ∷ 0x00 ∷ 0x00 ∷ 0x01 ∷ 0x02 ∷ []) ≡ Message (msg 258 Active)
 high-active = refl
@@ -25,6 +26,11 @@ low-passive = refl
 -- the mistake: body 02 01 00 00 of kind 61 read high byte first
 pub low-not-high : readOf (0x61 ∷ 0x02 ∷ 0x01 ∷ 0x00 ∷ 0x00 ∷ []) ≡ Message (msg 33619968 Active) → ⊥
 low-not-high e = let z : _≡_ {A = ℕ} 258 33619968 = ap (λ r. readTold r .value) e in omega arith
+
+-- what a reader is told of a message
+pub low-active-told : readTold (readOf (0x61 ∷ 0x02 ∷ 0x01 ∷ 0x00 ∷ 0x00 ∷ []))
+    ≡ record { number = 0; place = 0; kind = 1; value = 258 }
+low-active-told = refl
 
 pub sixth-ignored : readOf (0x41 ∷ 0x00 ∷ 0x00 ∷ 0x01 ∷ 0x02 ∷ 0xff ∷ []) ≡ Message (msg 258 Active)
 sixth-ignored = refl

@@ -5,12 +5,12 @@ use mathlib.Core.List.{List, [], _∷_, reverseAux, reverse-reverse}
 use native.Mathlib.Omega.{arith}
 use native.Mathlib.Nat.{mod-add-div, pow-suc}
 use lib.ListN.{length, take, drop, length-reverse}
-use Rattle.frame.specs.declared.Order.{Order}
-use Rattle.frame.specs.declared.Order.the-variants.{High, Low}
-use Rattle.frame.specs.Bytes.{byteValues, AllBytes, number, digits, inOrder, field, valueOf}
+use Rattle.wire.specs.declared.Order.{Order}
+use Rattle.wire.specs.declared.Order.the-variants.{High, Low}
+use Rattle.wire.specs.Bytes.{byteValues, AllBytes, number, digits, inOrder, field, valueOf}
 
 -- a number that fits w bytes is the number of its w digits
-number-digits : (w v : ℕ) → v < byteValues ^ w → number (digits w v) ≡ v
+pub number-digits : (w v : ℕ) → v < byteValues ^ w → number (digits w v) ≡ v
 number-digits zero v h = omega arith
 number-digits (suc w) v h =
     let b : v / byteValues < byteValues ^ w = omega (arith, rw pow-suc at h) in
@@ -32,6 +32,10 @@ length-digits (suc w) v = ap suc (length-digits w (v / byteValues))
 number-fits : (l : List ℕ) → AllBytes l → number l < byteValues ^ length l
 number-fits [] b = omega arith
 number-fits (x ∷ l) b = rw pow-suc (omega (arith, b .0, number-fits l (b .1)))
+
+bytes-digits : (w v : ℕ) → AllBytes (digits w v)
+bytes-digits zero v = tt
+bytes-digits (suc w) v = (omega arith, bytes-digits w (v / byteValues))
 
 bytes-reverseAux : (l r : List ℕ) → AllBytes l → AllBytes r → AllBytes (reverseAux l r)
 bytes-reverseAux [] r b c = c
@@ -66,10 +70,22 @@ length-field o w v = length-inOrder o (digits w v) ∙ length-digits w v
 pub value-field : (o : Order) (w v : ℕ) → v < byteValues ^ w → valueOf o (field o w v) ≡ v
 value-field o w v h = rw inOrder-twice (number-digits w v h)
 
+-- the digits of a value are its bytes, low byte first
+digits-value : (o : Order) (w : ℕ) (l : List ℕ) → AllBytes l → length l ≡ w → digits w (valueOf o l) ≡ inOrder o l
+digits-value o w l b e = rw (← e, ← length-inOrder o l) (digits-number (inOrder o l) (bytes-inOrder o l b))
+
 -- w bytes are the field of their value
 pub field-value : (o : Order) (w : ℕ) (l : List ℕ) → AllBytes l → length l ≡ w → field o w (valueOf o l) ≡ l
-field-value o w l b e =
-    rw (← e, ← length-inOrder o l, digits-number (inOrder o l) (bytes-inOrder o l b)) (inOrder-twice o l)
+field-value o w l b e = ap (inOrder o) (digits-value o w l b e) ∙ inOrder-twice o l
+
+-- the value of w bytes is that of their number's digits
+pub value-digits : (o : Order) (w : ℕ) (l : List ℕ) → AllBytes l → length l ≡ w →
+    valueOf o (digits w (number l)) ≡ valueOf o l
+value-digits o w l b e = ap (valueOf o) (rw (← e) (digits-number l b))
+
+-- the digits of a turned number are its field
+pub digits-turned : (o : Order) (w v : ℕ) → digits w (valueOf o (digits w v)) ≡ field o w v
+digits-turned o w v = digits-value o w (digits w v) (bytes-digits w v) (length-digits w v)
 
 -- the value of w bytes fits them
 pub value-fits : (o : Order) (w : ℕ) (l : List ℕ) → AllBytes l → length l ≡ w → valueOf o l < byteValues ^ w

@@ -14,17 +14,18 @@ use Rattle.refusal.specs.declared.Refusal.the-variants.{NoByte, UnknownKind, Cu
 use Rattle.refusal.specs.declared.Answer.{Answer}
 use Rattle.refusal.specs.declared.Answer.the-variants.{Done}
 use Rattle.refusal.specs.Numbered.{numbered}
-use Rattle.frame.specs.declared.Order.{Order}
-use Rattle.frame.specs.declared.Order.the-variants.{High, Low}
-use Rattle.frame.specs.declared.Head.{Head}
-use Rattle.frame.specs.declared.Head.the-variants.{Frame, NoHead}
-use Rattle.frame.specs.declared.Reading.{Reading}
-use Rattle.frame.specs.declared.Reading.the-variants.{Message, Refused}
-use Rattle.frame.specs.Bytes.{field, valueOf}
+use Rattle.wire.specs.declared.Order.{Order}
+use Rattle.wire.specs.declared.Order.the-variants.{High, Low}
+use Rattle.wire.specs.declared.Head.{Head}
+use Rattle.wire.specs.declared.Head.the-variants.{Frame, NoHead}
+use Rattle.wire.specs.declared.Reading.{Reading}
+use Rattle.wire.specs.declared.Reading.the-variants.{Message, Refused}
+use Rattle.wire.specs.declared.ReadTold.{ReadTold}
+use Rattle.wire.specs.Bytes.{wordBytes, field, valueOf}
 
--- the length of a body, which the kind fixes; today always four bytes
+-- the length of a body, which the kind fixes; today always four bytes, a word
 abbrev pub bodyLength : Kind → ℕ
-bodyLength k = 4
+bodyLength k = wordBytes
 
 -- one byte of kind, then the body
 abbrev pub frameLength : Kind → ℕ
@@ -100,14 +101,7 @@ writeAs (Frame o k) out v =
 abbrev pub writeOf : List ℕ → ℕ → ℕ → ℕ → Answer × List ℕ
 writeOf out g n v = writeAs (headFor g n) out v
 
--- a reading in document 01's numbers
-pub record ReadTold : Type 0 where
-  pub number : ℕ
-  pub place : ℕ
-  pub kind : ℕ
-  pub value : ℕ
-
--- number 0 with place 0 is a message; in a refusal kind and value are 0
+-- a reading in document 01's numbers: 0 with place 0 is a message; in a refusal kind and value are 0
 abbrev pub readTold : Reading → ReadTold
 readTold (Message m) = record { number = 0; place = 0; kind = kindNumber (m .kind); value = m .value }
 readTold (Refused r) = record { number = numbered r .number; place = numbered r .place; kind = 0; value = 0 }
