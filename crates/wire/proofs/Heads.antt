@@ -77,7 +77,7 @@ order-none g f =
       ne-eqb g 3 (λ e. f (omega arith) (omega arith)),
     )
 
--- and each order is sent by a generation
+-- each order is sent by a generation
 pub sent-by : (o : Order) → (g : ℕ) × (orderFor g ≡ some o)
 sent-by High = (1, refl)
 sent-by Low = (2, refl)
