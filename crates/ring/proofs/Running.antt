@@ -4,7 +4,7 @@ use mathlib.Core.Path.{_≡_, refl}
 use mathlib.Core.Bool.{Bool, true, false, cond}
 use mathlib.Core.List.{List, [], _∷_}
 use native.Mathlib.Omega.{arith}
-use borrow.Author.Tests.{eqb-false}
+use borrow.Author.Tests.{eqb-false, eq-eqb, ne-eqb}
 use lib.Dec.{eqb}
 use Rattle.ring.specs.Ring.{Ring, Out, refused, made, Rules, move, ringAfter, takenBy, skippedBy}
 use Rattle.ring.specs.Runs.{Run, ends, endUsedUp, endOver, endSpent, runFrom}
@@ -50,3 +50,26 @@ module _ {P M : Type 0} (G : Rules P M) (n c : ℕ) (isOver : Ring P M → Bool)
           cond e (ends R endSpent t s) later .taken ≤ b
       go later true q l = h
       go later false q l = l (eqb-false t b q)
+
+  -- a run, choice by choice --
+
+  module _ (R : Ring P M) (b t s : ℕ) where
+    pub run-over : (js : List ℕ) → isOver R ≡ true → runFrom G n c isOver js R b t s ≡ ends R endOver t s
+    unfolding runFrom
+    run-over [] e = rw e
+    run-over (j ∷ js) e = rw e
+
+    module _ (on : isOver R ≡ false) where
+      pub run-used-up : runFrom G n c isOver [] R b t s ≡ ends R endUsedUp t s
+      unfolding runFrom
+      run-used-up = rw on
+
+      pub run-spent : (j : ℕ) (js : List ℕ) → t ≡ b → runFrom G n c isOver (j ∷ js) R b t s ≡ ends R endSpent t s
+      unfolding runFrom
+      run-spent j js e = rw (on, eq-eqb t b e)
+
+      pub run-on : (j : ℕ) (js : List ℕ) → (t ≡ b → ⊥) → (o : Out P M) → move G n c R j ≡ o →
+          runFrom G n c isOver (j ∷ js) R b t s
+          ≡ runFrom G n c isOver js (ringAfter R o) b (t + takenBy o) (s + skippedBy o)
+      unfolding runFrom
+      run-on j js ne o e = rw (on, ne-eqb t b ne, e)

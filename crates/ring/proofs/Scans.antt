@@ -1,10 +1,11 @@
 -- What a loop that tests every index below a bound knows. Assumes nothing.
-use Prim.Native.Nat.{ℕ, zero, suc, _<_, _≤_}
+use Prim.Native.Nat.{ℕ, zero, suc, _+_, _<_, _≤_}
 use mathlib.Core.Path.{_≡_, refl, sym, ap, _∙_}
 use mathlib.Core.Bool.{Bool, true, false, _&&_, not, cond, true≢false}
 use mathlib.Core.Logic.{⊎-elim}
 use native.Mathlib.Nat.{not-suc-le-zero, le-of-suc-le-suc, eq-or-lt-of-le}
-use native.Mathlib.Decide.{decLt}
+use native.Mathlib.Numerals.{add-one}
+use native.Mathlib.Decide.{decLt, ℕ-discrete}
 use native.Mathlib.Omega.{arith}
 use borrow.Author.Tests.{lt-ltb, le-ltb, not-true, not-false}
 use lib.Dec.{ltb}
@@ -25,6 +26,18 @@ module _ (P : ℕ → Bool) where
   all-of zero h = refl
   all-of (suc n) h = rw (all-of n (λ i l. h i (omega arith)), h n (omega arith))
 
+  -- one more index passes
+  pub all-more : (i : ℕ) → allBelow i P ≡ true → P i ≡ true → allBelow (i + 1) P ≡ true
+  all-more i all here = rw (add-one, all, here)
+
+  -- an index fails
+  pub all-fails : (n i : ℕ) → i < n → P i ≡ false → allBelow n P ≡ false
+  all-fails n i h e = go (allBelow n P) refl
+    where
+      go : (b : Bool) → allBelow n P ≡ b → b ≡ false
+      go true q = absurd (true≢false (sym (all-at n i h q) ∙ e))
+      go false q = refl
+
 -- where not all pass, some index fails
 pub some-fails : (P : ℕ → Bool) (n : ℕ) → allBelow n P ≡ false → (i : ℕ) × (i < n) × (P i ≡ false)
 some-fails P zero e = let z : _≡_ {A = Bool} true false = e in absurd (true≢false z)
@@ -34,6 +47,10 @@ some-fails P (suc n) e = go (some-fails P n) (allBelow n P) refl e
         (b && P n) ≡ false → (i : ℕ) × (i < suc n) × (P i ≡ false)
     go later true q z = (n, omega arith, z)
     go later false q z = let f = later q in (f .0, omega (arith, f .1), f .2)
+
+-- an index below fails
+pub all-fewer : (P : ℕ → Bool) (m n : ℕ) → m ≤ n → allBelow m P ≡ false → allBelow n P ≡ false
+all-fewer P m n h e = let f = some-fails P m e in all-fails P n (f .0) (omega (arith, f .1)) (f .2)
 
 -- two tests that agree below n
 pub all-same : (P Q : ℕ → Bool) (n : ℕ) → ((i : ℕ) → i < n → P i ≡ Q i) → allBelow n P ≡ allBelow n Q
@@ -45,6 +62,14 @@ pub first-none : (P : ℕ → Bool) (n : ℕ) → ((k : ℕ) → k < n → P k �
 first-none P zero none = refl
 first-none P (suc n) none =
     rw (none 0 (omega arith)) (ap suc (first-none (λ k. P (suc k)) n (λ k l. none (suc k) (omega arith))))
+
+-- where it holds at i and at none before
+pub first-is : (P : ℕ → Bool) (n i : ℕ) → i < n → ((k : ℕ) → k < i → P k ≡ false) → P i ≡ true → firstBelow n P ≡ i
+first-is P zero i h none here = absurd (not-suc-le-zero h)
+first-is P (suc n) zero h none here = rw here
+first-is P (suc n) (suc i) h none here =
+    rw (none 0 (omega arith))
+    (ap suc (first-is (λ k. P (suc k)) n i (le-of-suc-le-suc h) (λ k l. none (suc k) (omega arith)) here))
 
 -- before the first index at which it holds, it fails
 pub first-before : (P : ℕ → Bool) (n k : ℕ) → k < firstBelow n P → P k ≡ false
@@ -86,3 +111,20 @@ some-first P n = go (allBelow n (λ i. not (P i))) refl
         let f = some-fails (λ i. not (P i)) n e in
         let low = not-below (f .0) (not-false (P (f .0)) (f .2)) (decLt (f .0) (firstBelow n P)) in
         sym (lt-ltb (firstBelow n P) n (omega (arith, f .1)))
+
+-- where every other index fails, some index passes exactly if j does
+pub some-but : (P : ℕ → Bool) (n j : ℕ) → j < n → ((k : ℕ) → k < n → (k ≡ j → ⊥) → P k ≡ false) → someBelow n P ≡ P j
+some-but P n j h others = go (P j) refl
+  where
+    each : P j ≡ false → (k : ℕ) → k < n → Dec (k ≡ j) → not (P k) ≡ true
+    each e k l (yes z) = rw (z, e)
+    each e k l (no z) = rw (others k l z)
+
+    go : (b : Bool) → P j ≡ b → someBelow n P ≡ b
+    go true e = rw (all-fails (λ i. not (P i)) n j h (rw e))
+    go false e = rw (all-of (λ i. not (P i)) n (λ k l. each e k l (ℕ-discrete k j)))
+
+-- where none passes
+pub none-at : (P : ℕ → Bool) (n k : ℕ) → k < n → someBelow n P ≡ false → P k ≡ false
+none-at P n k h e =
+    not-true (P k) (all-at (λ i. not (P i)) n k h (not-false (allBelow n (λ i. not (P i))) e))

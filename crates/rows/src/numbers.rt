@@ -33,6 +33,9 @@ pub fn state_of(w: u32) -> State
     }
 }
 
+// The largest number of a state.
+pub const LAST_STATE: u32 = 6;
+
 // The largest number of a kind.
 pub const LAST_KIND: u32 = 1;
 

@@ -1,11 +1,14 @@
--- n blocks of one width in a row: their length, the block at j, a list cut into blocks. Assumes nothing.
+-- n blocks of one width in a row: their length, the block at j, another block at j, a list cut into blocks.
+-- Assumes nothing.
 use Prim.Native.Nat.{ℕ, zero, suc, _+_, _*_, _<_, _≤_}
 use mathlib.Core.Path.{_≡_, refl, sym, ap, _∙_}
+use mathlib.Core.Logic.{_≢_}
 use mathlib.Core.List.{List, [], _∷_, _++_, append-assoc}
 use native.Mathlib.Nat.{zero-mul, suc-mul, add-comm, not-suc-le-zero, le-of-suc-le-suc}
 use native.Mathlib.Omega.{arith}
+use borrow.Rule.Slice.PartMut.{putMid}
 use lib.ListN.{length, getD, take, drop, length-append, length-drop, take-append-drop}
-use lib.Seq.{take-at, drop-append-add, drop-drop}
+use lib.Seq.{take-at, drop-at, take-append-add, drop-append-add, drop-drop}
 use Rattle.words.specs.Table.{blocks, firsts}
 
 -- the first elements of a sequence --
@@ -65,6 +68,39 @@ module _ (w : ℕ) where
       rw (← wide 0) (drop-append-add (f 0) (later ++ rest) (j * length (f 0))) in
       rw (next j, append-assoc (f 0) later rest, past)
       (block-at n (λ j. f (suc j)) (λ j. wide (suc j)) rest j (le-of-suc-le-suc h))
+
+  -- where g is f but for the block at j, that block in the place of f's gives g's blocks
+  pub block-put : (n : ℕ) (f g : ℕ → List ℕ) → ((j : ℕ) → length (f j) ≡ w) → (rest : List ℕ) (j : ℕ) → j < n →
+      ((k : ℕ) → k ≢ j → f k ≡ g k) → putMid (j * w) w (blocks n f ++ rest) (g j) ≡ blocks n g ++ rest
+  block-put zero f g wide rest j h same = absurd (not-suc-le-zero h)
+  block-put (suc n) f g wide rest zero h same =
+      let later = blocks n (λ j. f (suc j)) in
+      rw (
+        zero-mul w,
+        append-assoc (f 0) later rest,
+        drop-at (f 0) (later ++ rest) w (wide 0),
+        ← blocks-same n (λ j. f (suc j)) (λ j. g (suc j)) (λ j i. same (suc j) (λ z. omega arith)),
+      )
+      (sym (append-assoc (g 0) later rest))
+  block-put (suc n) f g wide rest (suc j) h same =
+      let later = blocks n (λ j. f (suc j)) in
+      let all = later ++ rest in
+      let past : drop (w + j * w) (f 0 ++ all) ≡ drop (j * w) all =
+      rw (← wide 0) (drop-append-add (f 0) all (j * length (f 0))) in
+      let upto : take (w + j * w) (f 0 ++ all) ≡ f 0 ++ take (j * w) all =
+      rw (← wide 0) (take-append-add (f 0) all (j * length (f 0))) in
+      rw (
+        next j,
+        append-assoc (f 0) later rest,
+        past,
+        upto,
+        append-assoc (f 0) (take (j * w) all) (g (suc j) ++ drop w (drop (j * w) all)),
+        ← same 0 (λ z. omega arith),
+        append-assoc (f 0) (blocks n (λ j. g (suc j))) rest,
+      )
+      (ap (λ (t : List ℕ). f 0 ++ t)
+      (block-put n (λ j. f (suc j)) (λ j. g (suc j)) (λ j. wide (suc j)) rest j (le-of-suc-le-suc h)
+      (λ k ne. same (suc k) (λ z. ne (omega arith)))))
 
   -- a list cut into blocks is itself
   pub blocks-cut : (n : ℕ) (ws : List ℕ) → n * w ≤ length ws →

@@ -19,10 +19,10 @@ use Rattle.words.proofs.Sound.{DistinctIn, formed-sound}
 use Rattle.words.proofs.Formed.{words-formed}
 
 -- a ring that fits, of different identities
-abbrev Fits : ℕ → ℕ → Ring Proc Msg → Type 0
+abbrev pub Fits : ℕ → ℕ → Ring Proc Msg → Type 0
 Fits n c R = Good n c R × DistinctIn n R
 
-move-fits : (n c : ℕ) (R : Ring Proc Msg) (j : ℕ) (R′ : Ring Proc Msg) → Fits n c R →
+pub move-fits : (n c : ℕ) (R : Ring Proc Msg) (j : ℕ) (R′ : Ring Proc Msg) → Fits n c R →
     move gateways n c R j ≡ made R′ → Fits n c R′
 move-fits n c R j R′ f e =
     let same : (k : ℕ) → procAt R k .ident ≡ procAt R′ k .ident =
@@ -32,10 +32,10 @@ move-fits n c R j R′ f e =
     )
 
 module _ (t : List ℕ) (ok : wellFormed t ≡ true) where
-  fits : Fits (countOf t) (capacityOf t) (ringOf t)
+  pub fits : Fits (countOf t) (capacityOf t) (ringOf t)
   fits = let s = formed-sound t ok in (s .good, s .distinct)
 
-  rewritten-formed : (R : Ring Proc Msg) → Fits (countOf t) (capacityOf t) R → wellFormed (rewritten t R) ≡ true
+  pub rewritten-formed : (R : Ring Proc Msg) → Fits (countOf t) (capacityOf t) R → wellFormed (rewritten t R) ≡ true
   rewritten-formed R f =
       words-formed (countOf t) (capacityOf t) R (restOf t) (formed-sound t ok .sized) (f .0) (f .1)
 

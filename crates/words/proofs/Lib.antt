@@ -8,6 +8,8 @@ pub mod Sound
 pub mod Formed
 pub mod Outside
 pub mod Kept
+pub mod Beside
 pub mod Starts
+pub mod Sizes
 pub mod Told
 pub mod Refused

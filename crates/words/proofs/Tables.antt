@@ -1,10 +1,11 @@
 -- The words of a ring: how many, and that they read back as that ring. Assumes nothing.
-use Prim.Native.Nat.{ℕ, suc, _+_, _*_, _<_, _≤_}
+use Prim.Native.Nat.{ℕ, suc, _+_, _-_, _*_, _<_, _≤_}
 use mathlib.Core.Path.{_≡_, refl, sym, ap, _∙_}
 use mathlib.Core.List.{List, [], _++_}
-use native.Mathlib.Nat.{suc-mul, mul-le-mul-right}
+use native.Mathlib.Nat.{suc-mul, mul-le-mul-right, add-sub-cancel-left}
+use native.Mathlib.Numerals.{add-one}
 use native.Mathlib.Omega.{arith}
-use lib.ListN.{length, length-append}
+use lib.ListN.{length, take, drop, length-append}
 use lib.Seq.{drop-at}
 use Rattle.gateway.specs.declared.Proc.{Proc}
 use Rattle.gateway.specs.declared.Msg.{Msg}
@@ -32,6 +33,16 @@ use Rattle.words.proofs.Records.{length-record, read-proc, read-queue}
 pub record-inside : (c j n : ℕ) → j < n → recordPlace c j + recordWidth c ≤ tableLength n c
 record-inside c j n h =
     omega (arith, mul-le-mul-right {m = suc j} {n = n} (recordWidth c) h, suc-mul j (recordWidth c))
+
+-- a is where record j begins, w is how long it is
+module _ (c j a w : ℕ) (at : a ≡ recordPlace c j) (wide : w ≡ recordWidth c) where
+  -- behind it the next one begins
+  pub next-place : a + w ≡ recordPlace c (j + 1)
+  next-place = rw (add-one j) (omega (arith, suc-mul j (recordWidth c)))
+
+  -- the part from a to a + w is that record
+  pub record-part : (t : List ℕ) → take (a + w - a) (drop a t) ≡ recordAt t c j
+  record-part t = rw (add-sub-cancel-left a w, wide, at)
 
 -- the head's two words, then the records
 pub past-head : (c j : ℕ) → recordPlace c j ≡ suc (suc (j * recordWidth c))

@@ -14,6 +14,8 @@ use Rattle.ring.specs.Ring.{Ring, Out, refused, made, move}
 use Rattle.ring.specs.Runs.{Run}
 use Rattle.ring.specs.Identities.{firstRepeat}
 use Rattle.ring.specs.Gateways.{gateways, procAt, started, leaderOf, running}
+use Rattle.words.specs.declared.Size.{Size}
+use Rattle.words.specs.declared.Size.the-variants as Size
 use Rattle.words.specs.declared.Ran.{Ran}
 use Rattle.words.specs.declared.Ran.the-variants as Ran
 use Rattle.words.specs.declared.Leading.{Leading}
@@ -21,6 +23,13 @@ use Rattle.words.specs.declared.Leading.the-variants as Leading
 use Rattle.words.specs.Layout.{mostProcesses, mostCapacity, tableLength}
 use Rattle.words.specs.Table.{tableWords, countOf, capacityOf, restOf, ringOf}
 use Rattle.words.specs.WellFormed.{inRange, wellFormed}
+
+-- the words that a table of n processes and capacity c takes: 1, 2, else how many
+abbrev pub sizeOf : ℕ → ℕ → Size
+sizeOf n c =
+    cond (not (inRange mostProcesses n)) (Size.Refused Count)
+    (cond (not (inRange mostCapacity c)) (Size.Refused Capacity)
+    (Size.Words (tableLength n c)))
 
 -- a start, from identities and a capacity: 1, 2, 3, 4, else the table of the started ring
 unfoldable pub startOf : List ℕ → List ℕ → ℕ → Answer × List ℕ

@@ -1,0 +1,24 @@
+-- The limits of a table, and how many words its records take at most. Assumes nothing.
+use Prim.Native.Nat.{ℕ, _*_, _<_, _≤_}
+use mathlib.Core.Path.{_≡_}
+use mathlib.Core.Bool.{true, false}
+use native.Mathlib.Nat.{mul-le-mul-right}
+use native.Mathlib.Omega.{arith}
+use borrow.Author.Tests.{le-leb, lt-leb}
+use Rattle.words.specs.Layout.{mostProcesses, mostCapacity, recordWidth}
+use Rattle.words.specs.WellFormed.{inRange}
+
+module _ (most n : ℕ) where
+  pub none-out : n ≡ 0 → inRange most n ≡ false
+  none-out h = rw (lt-leb 1 n (omega arith))
+
+  pub over-out : most < n → inRange most n ≡ false
+  over-out h = rw (le-leb 1 n (omega arith), lt-leb n most h)
+
+  pub in-range : (n ≡ 0 → ⊥) → n ≤ most → inRange most n ≡ true
+  in-range some h = rw (le-leb 1 n (omega (arith, some)), le-leb n most h)
+
+-- n records of w words are not many
+pub records-small : (n w c : ℕ) → n ≤ mostProcesses → c ≤ mostCapacity → w ≡ recordWidth c →
+    n * w ≤ mostProcesses * recordWidth mostCapacity
+records-small n w c hn hc e = omega (arith, mul-le-mul-right {m = n} {n = mostProcesses} w hn)

@@ -1,0 +1,33 @@
+-- A record of w words at a, lent and back. Assumes nothing.
+use Prim.Native.Nat.{ℕ, _+_, _-_, _*_, _≤_}
+use mathlib.Core.Path.{_≡_, sym, _∙_}
+use mathlib.Core.List.{List}
+use native.Mathlib.Nat.{mul-le-mul, add-sub-cancel-left}
+use native.Mathlib.Omega.{arith}
+use borrow.Rule.Slice.PartMut.{midOf, putMid}
+use lib.ListN.{length, getD, drop, length-drop}
+use lib.Seq.{length-take-le, getD-take, getD-drop}
+use Rattle.words.specs.Layout.{mostProcesses, mostCapacity, lengthPlace, recordWidth, recordPlace}
+use Rattle.words.specs.Table.{recordAt, lengthOf}
+use Rattle.words.proofs.Tables.{record-part}
+use Rattle.table.specs.Inside.{withRecord}
+
+-- a record's place is small
+pub place-small : (c j : ℕ) → c ≤ mostCapacity → j ≤ mostProcesses → j * recordWidth c ≤ 608
+place-small c j hc hj = mul-le-mul {n₁ = j} {m₁ = recordWidth c} {n₂ = 16} {m₂ = 38} hj (omega arith)
+
+pub record-length : (t : List ℕ) (c j : ℕ) → recordPlace c j + recordWidth c ≤ length t →
+    length (recordAt t c j) ≡ recordWidth c
+record-length t c j h = length-take-le (recordWidth c) (drop (recordPlace c j) t) (simp length-drop (omega arith))
+
+module _ (t : List ℕ) (c j a : ℕ) (at : a ≡ recordPlace c j) where
+  pub lend-length : getD t (a + lengthPlace) 0 ≡ lengthOf (recordAt t c j)
+  lend-length =
+      let p = recordPlace c j in
+      rw at
+      (sym (getD-take (recordWidth c) (drop p t) lengthPlace 0 (omega arith) ∙ getD-drop p t lengthPlace 0))
+
+  module _ (w : ℕ) (wide : w ≡ recordWidth c) where
+    pub lend-put : (f : List ℕ → List ℕ) (r : List ℕ) → r ≡ f (midOf a (a + w - a) t) →
+        putMid a (a + w - a) t r ≡ withRecord t c j (f (recordAt t c j))
+    lend-put f r e = rw (e, record-part c j a w at wide t) (rw (add-sub-cancel-left a w, at, wide))

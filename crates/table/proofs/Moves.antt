@@ -1,0 +1,226 @@
+-- What the code's lends and stores make of a well-formed table, as moves of its ring. Assumes nothing.
+use Prim.Native.Nat.{ℕ, zero, suc, _-_, _<_, _≤_}
+use mathlib.Core.Path.{_≡_, refl, sym, ap, _∙_}
+use mathlib.Core.Bool.{Bool, true, false, cond}
+use mathlib.Core.List.{List, [], _∷_, _++_}
+use native.Mathlib.Omega.{arith}
+use lib.ListN.{length, getD, set, length-set}
+use lib.Seq.{getD-set-same}
+use lib.Dec.{eqb}
+use Rattle.gateway.specs.declared.State.{State}
+use Rattle.gateway.specs.declared.State.the-variants.{Leads}
+use Rattle.gateway.specs.declared.Proc.{Proc}
+use Rattle.gateway.specs.declared.Msg.{Msg}
+use Rattle.gateway.specs.declared.Want as Asked
+use Rattle.gateway.specs.declared.Want.the-variants.{Takes}
+use Rattle.gateway.specs.declared.Took.{Took}
+use Rattle.gateway.specs.declared.Took.the-variants.{Becomes, Wrong}
+use Rattle.gateway.specs.Row.{inState, row, took}
+use Rattle.gateway.specs.Numbers.{stateNumber}
+use Rattle.gateway.proofs.Changes.{isLeading, Taking, took-changes}
+use Rattle.gateway.proofs.SameIdentity.{Taken, took-same}
+use Rattle.rows.proofs.Tests.{ite-lt, ite-le}
+use Rattle.ring.specs.Ring.{Ring, puts, announces, prev, queueOf, becoming, queueing, putting, taking}
+use Rattle.ring.specs.Gateways.{gateways, starting, procAt, isIn, wanted}
+use Rattle.ring.proofs.Moves.{move-in, move-out}
+use Rattle.ring.proofs.Good.{prev-below}
+use Rattle.words.specs.Table.{tableWords, countOf, capacityOf, recordAt, restOf, readProc, lengthOf, ringOf}
+use Rattle.words.specs.Outcomes.{rewritten}
+use Rattle.words.proofs.Sound.{Sound, formed-sound}
+use Rattle.words.proofs.Records.{read-proc}
+use Rattle.words.proofs.Tables.{record-inside}
+use Rattle.table.specs.Inside.{
+  oldestOf,
+  entered,
+  becameWords,
+  putWords,
+  takenWords,
+  withRecord,
+  Within,
+  Formed,
+  isLeads,
+  codeMoved,
+  codeAnnounced,
+  coded,
+  served,
+  moveOf,
+}
+use Rattle.table.proofs.Records.{read-length, read-oldest}
+use Rattle.table.proofs.Changing.{Laid, record-is, became, entered-is, took-is, put-is}
+
+-- the process before one that is not the first
+pub prev-else : (n j : ℕ) → (j ≡ 0 → ⊥) → j - 1 ≡ prev n j
+prev-else n zero h = absurd (h refl)
+prev-else n (suc j) h = omega arith
+
+pub not-none : (n : ℕ) → (n ≡ 0 → ⊥) → 1 ≤ n
+not-none zero h = absurd (h refl)
+not-none (suc n) h = omega arith
+
+pub within-same : (t t₁ : List ℕ) (c j : ℕ) → Within t c j → length t₁ ≡ length t → Within t₁ c j
+within-same t t₁ c j w e = record {
+  roomy = w .roomy;
+  small = w .small;
+  few = w .few;
+  inside = rw e (w .inside);
+}
+
+module _ (t : List ℕ) (n c : ℕ) (f : Formed t n c) where
+  pub formed-count : Formed t (countOf t) c
+  formed-count = record { formed = f .formed; count = refl; capacity = f .capacity }
+
+  pub is-process : (j : ℕ) → j < n → j < countOf t
+  is-process j h = rw (f .count) at h
+
+  so : Sound t
+  so = formed-sound t (f .formed)
+
+  pub within : (j : ℕ) → j < countOf t → Within t c j
+  within j h =
+      let e = record-inside (capacityOf t) j (countOf t) h in
+      let s = so in
+      rw (f .capacity)
+      (record {
+        roomy = s .sized .roomy;
+        small = s .sized .small;
+        few = omega (arith, s .sized .few);
+        inside = omega (arith, s .long);
+      })
+
+  laid : Laid t n c (ringOf t) (restOf t)
+  laid = rw (f .count, f .capacity) (record { image = so .image; procs = so .good .procs; queues = so .good .queues })
+
+  below-n : (j : ℕ) → j < countOf t → j < n
+  below-n j h = rw (f .count) h
+
+  rewrites : (R : Ring Proc Msg) (last : List ℕ) → last ≡ tableWords n c R ++ restOf t → last ≡ rewritten t R
+  rewrites R last e = rw (f .count, f .capacity) at e
+
+  -- a record of the table, as its ring has it --
+
+  module _ (j : ℕ) (below : j < countOf t) where
+    pub read-is : readProc (recordAt t c j) ≡ procAt (ringOf t) j
+    read-is =
+        ap readProc (record-is t n c (ringOf t) (restOf t) laid j (below-n j below))
+        ∙ read-proc c (procAt (ringOf t) j) (queueOf (ringOf t) j)
+
+    length-is : lengthOf (recordAt t c j) ≡ length (queueOf (ringOf t) j)
+    length-is =
+        ap lengthOf (record-is t n c (ringOf t) (restOf t) laid j (below-n j below))
+        ∙ read-length c (procAt (ringOf t) j) (queueOf (ringOf t) j)
+
+    -- a queue that is not empty has an oldest message
+    oldest-is : (lengthOf (recordAt t c j) ≡ 0 → ⊥) → (m : Msg) → m ≡ oldestOf (recordAt t c j) →
+        (q : List Msg) × (queueOf (ringOf t) j ≡ m ∷ q)
+    oldest-is some m e = go (queueOf (ringOf t) j) refl
+      where
+        roomy : 1 ≤ c
+        roomy = rw (f .capacity) (so .sized .roomy)
+
+        go : (q : List Msg) → queueOf (ringOf t) j ≡ q → (q′ : List Msg) × (queueOf (ringOf t) j ≡ m ∷ q′)
+        go [] h = absurd (some (length-is ∙ ap length h))
+        go (x ∷ q) h =
+            let p = procAt (ringOf t) j in
+            let words = record-is t n c (ringOf t) (restOf t) laid j (below-n j below) in
+            let same : m ≡ x = e ∙ rw (words, h) (read-oldest c p x q roomy) in
+            (q, rw (same, h))
+
+    -- who stands at j once it has become p
+    there : (p : Proc) → getD (set (ringOf t .procs) j p) j (starting 0) ≡ p
+    there p = getD-set-same (ringOf t .procs) j p (starting 0) (omega (arith, so .good .procs))
+
+    -- the row that announces --
+
+    pub announced-is : (p : Proc) (last : List ℕ) → p ≡ inState (p .state) (procAt (ringOf t) j) →
+        isLeading p ≡ true → last ≡ withRecord t c j (entered (recordAt t c j) (p .state)) →
+        (codeAnnounced, last) ≡ coded t j (served t j (announces p))
+    announced-is p last alone leads e =
+        let R = ringOf t in
+        let words : last ≡ tableWords n c (becoming R j p) ++ restOf t =
+        e ∙ entered-is t n c R (restOf t) laid j (below-n j below) (p .state)
+        ∙ ap (λ (q : Proc). tableWords n c (becoming R j q) ++ restOf t) (sym alone) in
+        rw (there p, leads, rewrites (becoming R j p) last words)
+
+    -- the row that puts --
+
+    module _ (m : Msg) (s : State) where
+      abbrev p : Proc
+      p = inState s (procAt (ringOf t) j)
+
+      pub put-done : (last : List ℕ) → isLeads s ≡ false → lengthOf (recordAt t c j) < c →
+          last ≡ withRecord t c j (putWords (recordAt t c j) m s) →
+          (codeMoved, last) ≡ coded t j (served t j (puts m (inState s (procAt (ringOf t) j))))
+      put-done last quiet room e =
+          let R = ringOf t in
+          let room-c : length (queueOf R j) < c = rw length-is at room in
+          let room-t : length (queueOf R j) < capacityOf t = rw (f .capacity) at room-c in
+          let words : last ≡ tableWords n c (putting R j m p) ++ restOf t =
+          e ∙ put-is t n c R (restOf t) laid j (below-n j below) m s room-c in
+          rw (ite-lt room-t _ _, there p, quiet, rewrites (putting R j m p) last words)
+
+      pub put-full : c ≤ lengthOf (recordAt t c j) → (8, t) ≡ coded t j (served t j (puts m p))
+      put-full full =
+          let full-c : c ≤ length (queueOf (ringOf t) j) = rw length-is at full in
+          let full-t : capacityOf t ≤ length (queueOf (ringOf t) j) = rw (f .capacity) at full-c in
+          rw (ite-le full-t _ _)
+
+  -- the row that takes, from i --
+
+  module _ (j : ℕ) (below : j < countOf t) (i : ℕ) (ei : i ≡ prev n j) (p : Proc) where
+    ei-t : i ≡ prev (countOf t) j
+    ei-t = ei ∙ ap (λ (k : ℕ). prev k j) (f .count)
+
+    pub i-below : i < countOf t
+    i-below = rw ei-t (prev-below (countOf t) j below)
+
+    pub take-empty : lengthOf (recordAt t c i) ≡ 0 → (7, t) ≡ coded t j (served t j (wanted p Takes))
+    take-empty e =
+        let none : queueOf (ringOf t) i ≡ [] = go (queueOf (ringOf t) i) (sym (length-is i i-below) ∙ e) in
+        rw (← ei-t, none)
+      where
+        go : (q : List Msg) → length q ≡ 0 → q ≡ []
+        go [] h = refl
+        go (x ∷ q) h = absurd (omega arith)
+
+    module _ (len : ℕ) (el : len ≡ lengthOf (recordAt t c i)) (some : len ≡ 0 → ⊥) (m : Msg)
+        (em : m ≡ oldestOf (recordAt t c i)) (x : Took) (ex : x ≡ took p m) where
+      front : (q : List Msg) × (queueOf (ringOf t) i ≡ m ∷ q)
+      front = oldest-is i i-below (λ z. some (el ∙ z)) m em
+
+      pub take-wrong : x ≡ Wrong → (9, t) ≡ coded t j (served t j (wanted p Takes))
+      take-wrong e = let w : took p m ≡ Wrong = sym ex ∙ e in rw (← ei-t, front .1, w)
+
+      pub take-done : (p′ : Proc) (t₁ t₂ : List ℕ) → p ≡ procAt (ringOf t) j → x ≡ Becomes p′ →
+          t₁ ≡ withRecord t c i (takenWords (recordAt t c i)) →
+          t₂ ≡ withRecord t₁ c j (becameWords (recordAt t₁ c j) p′) →
+          (codeMoved, t₂) ≡ coded t j (served t j (wanted p Takes))
+      take-done p′ t₁ t₂ ep e e₁ e₂ =
+          let R = ringOf t in
+          let q = front in
+          let fits : length (queueOf R i) ≤ c = rw (f .capacity) (so .good .fitting i i-below) in
+          let l₁ : Laid t₁ n c (queueing R i (q .0)) (restOf t) =
+          record {
+            image = e₁ ∙ took-is t n c R (restOf t) laid i (below-n i i-below) m (q .0) (q .1) fits;
+            procs = laid .procs;
+            queues = simp length-set (laid .queues);
+          } in
+          let w : took p m ≡ Becomes p′ = sym ex ∙ e in
+          let same : Taken (p .ident) (Becomes p′) = rw w at (took-same p m) in
+          let quiet : Taking (Becomes p′) = rw w at (took-changes p m) in
+          let words : t₂ ≡ tableWords n c (taking R j i (q .0) p′) ++ restOf t =
+          e₂ ∙ became t₁ n c (queueing R i (q .0)) (restOf t) l₁ j (below-n j below) p′
+          (same ∙ ap (λ (p : Proc). p .ident) ep) in
+          rw (← ei-t, q .1, w, there j below p′, quiet, rewrites (taking R j i (q .0) p′) t₂ words)
+
+  -- what the row asks is what the choice comes to
+  pub by-row : (j : ℕ) → j < countOf t → (p : Proc) → p ≡ procAt (ringOf t) j → (w : Asked.Want) → w ≡ row p →
+      (o : ℕ × List ℕ) → o ≡ coded t j (served t j (wanted p w)) → o ≡ coded t j (moveOf t j)
+  by-row j below p ep w ew o h =
+      let z : served t j (wanted p w) ≡ moveOf t j =
+      rw (ew, ep) (sym (move-in gateways (countOf t) (capacityOf t) (ringOf t) j below)) in
+      h ∙ ap (coded t j) z
+
+  pub no-process : (j : ℕ) → n ≤ j → (6, t) ≡ coded t j (moveOf t j)
+  no-process j h =
+      let past : countOf t ≤ j = rw (f .count) at h in
+      rw (move-out gateways (countOf t) (capacityOf t) (ringOf t) j past)

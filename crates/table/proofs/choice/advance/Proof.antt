@@ -1,0 +1,109 @@
+use mathlib.Core.Path.{refl, sym, ap, _∙_}
+use Rattle.gateway.specs.Row.{inState}
+use Rattle.gateway.proofs.Changes.{puts-changes, announces-changes}
+use Rattle.ring.specs.Ring.{puts}
+use Rattle.table.specs.Inside.{coded, served}
+use Rattle.table.proofs.Moves.{within, read-is, announced-is, by-row, no-process, is-process, formed-count}
+use borrow.Author.Needs.{needs}
+use Rattle.table.proofs.choice.advance.Statement.{statement}
+use Rattle.table.proofs.choice.advance.Tie as tie
+
+returns : tie.Need-returns
+returns c =
+    let s = c .before .before in
+    let a = s .args in
+    no-process (a .table .now) (a .n) (a .c) (s .pre) (a .j) (c .if1 .taken)
+
+read-at-requires : tie.Need-read-at-requires
+read-at-requires c κs =
+    let s = c .before .before .before in
+    let a = s .args in
+    within (a .table .now) (a .n) (a .c) (s .pre) (a .j) (is-process _ _ _ (s .pre) (a .j) (c .before .if1 .left))
+
+put-move-requires : tie.Need-put-move-requires
+put-move-requires c κs =
+    let s = c .before .before .before .before .before .before .before .before .before in
+    let a = s .args in
+    let t = a .table .now in
+    let low = is-process _ _ _ (s .pre) (a .j) (c .before .before .before .before .before .before .before .if1 .left) in
+    let w = c .before .before .before .before .wants in
+    let m = c .before .before .m .given in
+    let went = puts-changes (c .before .before .before .before .before .read-at .result) _ _ (sym (w .ensures) ∙ m .1) in
+    (formed-count t (a .n) (a .c) (s .pre), low, went .leads)
+
+take-move-requires : tie.Need-take-move-requires
+take-move-requires c κs =
+    let s = c .before .before .before .before .before .before .before .before in
+    let a = s .args in
+    let t = a .table .now in
+    let low = is-process _ _ _ (s .pre) (a .j) (c .before .before .before .before .before .before .if1 .left) in
+    let r = c .before .before .before .before .read-at in
+    (s .pre, low, r .ensures ∙ read-is t (a .n) (a .c) (s .pre) (a .j) low)
+
+set-state-at-requires : tie.Need-set-state-at-requires
+set-state-at-requires c κs =
+    let s = c .before .before .before .before .before .before .before .before .before in
+    let a = s .args in
+    within (a .table .now) (a .n) (a .c) (s .pre) (a .j) (is-process _ _ _ (s .pre) (a .j) (c .before .before .before .before .before .before .before .if1 .left))
+
+returns-2 : tie.Need-returns-2
+returns-2 c =
+    let s = c .before .before .before .before .before .before .before .before .before .before .before .before in
+    let a = s .args in
+    let t = a .table .now in
+    let low = is-process _ _ _ (s .pre) (a .j) (c .before .before .before .before .before .before .before .before .before .before .if1 .left) in
+    let r = c .before .before .before .before .before .before .before .before .read-at in
+    let p = r .ensures ∙ read-is t (a .n) (a .c) (s .pre) (a .j) low in
+    let w = c .before .before .before .before .before .before .before .wants in
+    let m = c .before .before .before .before .before .m .given in
+    let went = puts-changes (r .result) _ _ (sym (w .ensures) ∙ m .1) in
+    by-row t (a .n) (a .c) (s .pre) (a .j) low (r .result) p _ (sym (m .1) ∙ w .ensures) _
+    (c .before .before .put-move .ensures
+    ∙ ap (λ q. coded t (a .j) (served t (a .j) (puts (m .0 .0) q)))
+    (ap (inState (m .0 .1 .0 .state)) (sym p) ∙ sym (went .alone)))
+
+returns-3 : tie.Need-returns-3
+returns-3 c =
+    let s = c .before .before .before .before .before .before .before .before .before .before .before in
+    let a = s .args in
+    let t = a .table .now in
+    let low = is-process _ _ _ (s .pre) (a .j) (c .before .before .before .before .before .before .before .before .before .if1 .left) in
+    let r = c .before .before .before .before .before .before .before .read-at in
+    let p = r .ensures ∙ read-is t (a .n) (a .c) (s .pre) (a .j) low in
+    by-row t (a .n) (a .c) (s .pre) (a .j) low (r .result) p _ (sym (c .before .before .before .before .enum-told .given .1) ∙ c .before .before .before .before .before .before .wants .ensures) _
+    (c .before .before .take-move .ensures)
+
+returns-4 : tie.Need-returns-4
+returns-4 c =
+    let s = c .before .before .before .before .before .before .before .before .before .before .before .before in
+    let a = s .args in
+    let t = a .table .now in
+    let low = is-process _ _ _ (s .pre) (a .j) (c .before .before .before .before .before .before .before .before .before .before .if1 .left) in
+    let r = c .before .before .before .before .before .before .before .before .read-at in
+    let p = r .ensures ∙ read-is t (a .n) (a .c) (s .pre) (a .j) low in
+    let w = c .before .before .before .before .before .before .before .wants in
+    let q = c .before .before .before .before .before .q .given in
+    let went = announces-changes (r .result) _ (sym (w .ensures) ∙ q .1) in
+    let g = c .before .before .set-state-at in
+    by-row t (a .n) (a .c) (s .pre) (a .j) low (r .result) p _ (sym (q .1) ∙ w .ensures) _
+    (announced-is t (a .n) (a .c) (s .pre) (a .j) low (q .0 .0) (g .last .0)
+    (went .alone ∙ ap (inState (q .0 .0 .state)) p) (went .leads) (g .ensures))
+
+returns-5 : tie.Need-returns-5
+returns-5 c =
+    let s = c .before .before .before .before .before .before .before in
+    let a = s .args in
+    let t = a .table .now in
+    let low = is-process _ _ _ (s .pre) (a .j) (c .before .before .before .before .before .if1 .left) in
+    let r = c .before .before .before .read-at in
+    let p = r .ensures ∙ read-is t (a .n) (a .c) (s .pre) (a .j) low in
+    by-row t (a .n) (a .c) (s .pre) (a .j) low (r .result) p _ (sym (c .enum-told2 .given .1) ∙ c .before .before .wants .ensures) _
+    refl
+
+pub advance-spec : {M : Type 1} → statement M
+advance-spec =
+    tie.close
+    (tie.spec returns read-at-requires (λ c κs. search needs) (λ c. search needs) put-move-requires
+    (λ c. search needs) take-move-requires (λ c. search needs) set-state-at-requires (λ c. search needs)
+    (λ c. search needs) returns-2 (λ c. search needs) returns-3 (λ c. search needs) returns-4 (λ c. search needs)
+    returns-5)

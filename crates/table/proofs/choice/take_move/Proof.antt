@@ -1,0 +1,85 @@
+use mathlib.Core.Path.{sym, _∙_}
+use Rattle.table.proofs.Moves.{within, within-same, not-none, i-below, take-empty, take-wrong, take-done}
+use borrow.Author.Needs.{needs}
+use Rattle.table.proofs.choice.take_move.Statement.{statement}
+use Rattle.table.proofs.choice.take_move.Tie as tie
+
+length-at-requires : tie.Need-length-at-requires
+length-at-requires c κs =
+    let s = c .before .before .before in
+    let a = s .args in
+    let t = a .table .now in
+    let i = c .before .before2 in
+    let low = i-below t (a .n) (a .c) (s .pre .0) (a .j) (s .pre .1) (i .result) (i .ensures) (a .p) in
+    within t (a .n) (a .c) (s .pre .0) (i .result) low
+
+returns : tie.Need-returns
+returns c =
+    let s = c .before .before .before .before .before in
+    let a = s .args in
+    let i = c .before .before .before .before2 in
+    let none = sym (c .before .length-at .ensures) ∙ c .if1 .taken in
+    take-empty (a .table .now) (a .n) (a .c) (s .pre .0) (a .j) (s .pre .1) (i .result) (i .ensures) (a .p) none
+
+oldest-at-requires : tie.Need-oldest-at-requires
+oldest-at-requires c κs =
+    let s = c .before .before .before .before .before .before in
+    let a = s .args in
+    let t = a .table .now in
+    let i = c .before .before .before .before .before2 in
+    let low = i-below t (a .n) (a .c) (s .pre .0) (a .j) (s .pre .1) (i .result) (i .ensures) (a .p) in
+    within t (a .n) (a .c) (s .pre .0) (i .result) low
+
+take-at-requires : tie.Need-take-at-requires
+take-at-requires c κs =
+    let s = c .before .before .before .before .before .before .before .before .before .before .before .before in
+    let a = s .args in
+    let t = a .table .now in
+    let i = c .before .before .before .before .before .before .before .before .before .before .before2 in
+    let low = i-below t (a .n) (a .c) (s .pre .0) (a .j) (s .pre .1) (i .result) (i .ensures) (a .p) in
+    let some = c .before .before .before .before .before .before .before .if1 .left in
+    let long = c .before .before .before .before .before .before .before .before .length-at .ensures in
+    (within t (a .n) (a .c) (s .pre .0) (i .result) low, not-none _ (λ z. some (long ∙ z)))
+
+set-proc-at-requires : tie.Need-set-proc-at-requires
+set-proc-at-requires c κs =
+    let s = c .before .before .before .before .before .before .before .before .before .before .before .before .before .before .before .before in
+    let a = s .args in
+    let t = a .table .now in
+    let g = c .before .before .before .take-at in
+    within-same t (g .last .0) (a .c) (a .j) (within t (a .n) (a .c) (s .pre .0) (a .j) (s .pre .1)) (g .kept .0)
+
+returns-2 : tie.Need-returns-2
+returns-2 c =
+    let s = c .before .before .before .before .before .before .before .before .before .before in
+    let a = s .args in
+    let i = c .before .before .before .before .before .before .before .before .before2 in
+    let len = c .before .before .before .before .before .before .length-at in
+    let some = c .before .before .before .before .before .if1 .left in
+    let m = c .before .before .before .oldest-at in
+    let x = c .before .before .take-in in
+    take-wrong (a .table .now) (a .n) (a .c) (s .pre .0) (a .j) (s .pre .1) (i .result) (i .ensures) (a .p)
+    (len .result) (len .ensures) some (m .result) (m .ensures) (x .result) (x .ensures) (c .enum-told .given .1)
+
+returns-3 : tie.Need-returns-3
+returns-3 c =
+    let s = c .before .before .before .before .before .before .before .before .before .before .before .before .before .before .before .before .before .before .before in
+    let a = s .args in
+    let i = c .before .before .before .before .before .before .before .before .before .before .before .before .before .before .before .before .before .before2 in
+    let len = c .before .before .before .before .before .before .before .before .before .before .before .before .before .before .before .length-at in
+    let some = c .before .before .before .before .before .before .before .before .before .before .before .before .before .before .if1 .left in
+    let m = c .before .before .before .before .before .before .before .before .before .before .before .before .oldest-at in
+    let x = c .before .before .before .before .before .before .before .before .before .before .before .take-in in
+    let q = c .before .before .before .before .before .before .before .before .before .q .given in
+    let g = c .before .before .before .before .before .before .take-at in
+    let w = c .before .before .set-proc-at in
+    take-done (a .table .now) (a .n) (a .c) (s .pre .0) (a .j) (s .pre .1) (i .result) (i .ensures) (a .p)
+    (len .result) (len .ensures) some (m .result) (m .ensures) (x .result) (x .ensures) (q .0 .0) (g .last .0) (w .last .0) (s .pre .2) (q .1)
+    (g .ensures) (w .ensures)
+
+pub take-move-spec : {M : Type 1} → statement M
+take-move-spec =
+    tie.close
+    (tie.spec (λ c κs. search needs) length-at-requires (λ c. search needs) returns oldest-at-requires
+    (λ c κs. search needs) (λ c. search needs) (λ c. search needs) take-at-requires set-proc-at-requires
+    (λ c. search needs) returns-2 (λ c. search needs) returns-3)

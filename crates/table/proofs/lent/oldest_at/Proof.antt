@@ -1,0 +1,20 @@
+use mathlib.Core.Path.{_∙_, ap}
+use Rattle.table.specs.Inside.{oldestOf}
+use Rattle.words.proofs.Tables.{record-part}
+use borrow.Author.Needs.{needs}
+use Rattle.table.proofs.lent.oldest_at.Statement.{statement}
+use Rattle.table.proofs.lent.oldest_at.Tie as tie
+
+returns : tie.Need-returns
+returns c =
+    let a = c .before .before .before .before .before .args in
+    let at = c .before .before .before .place in
+    let wide = c .before .before .width in
+    c .oldest .ensures
+    ∙ ap oldestOf (record-part (a .c) (a .j) (at .result) (wide .result) (at .ensures) (wide .ensures) (a .table .now))
+
+pub oldest-at-spec : {M : Type 1} → statement M
+oldest-at-spec =
+    tie.close
+    (tie.spec (λ c κs. search needs) (λ c κs. search needs) (λ c. search needs) (λ c. search needs)
+    (λ c. search needs) (λ c. search needs) (λ c. search needs) (λ c κs. search needs) returns)

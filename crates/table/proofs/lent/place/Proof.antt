@@ -1,0 +1,18 @@
+use native.Mathlib.Omega.{arith}
+use Rattle.table.proofs.Lending.{place-small}
+use borrow.Author.Needs.{needs}
+use Rattle.table.proofs.lent.place.Statement.{statement}
+use Rattle.table.proofs.lent.place.Tie as tie
+
+mul-result : tie.Need-mul-result
+mul-result c = let s = c .before in rw (c .width .ensures) (omega (arith, place-small (s .args .c) (s .args .j) (s .pre .0) (s .pre .1)))
+
+add-result : tie.Need-add-result
+add-result c = let s = c .before in rw (c .width .ensures) (omega (arith, place-small (s .args .c) (s .args .j) (s .pre .0) (s .pre .1)))
+
+returns : tie.Need-returns
+returns c = rw (c .width .ensures)
+
+pub place-spec : {M : Type 1} → statement M
+place-spec = tie.close
+    (tie.spec (λ c κs. search needs) mul-result add-result returns)
