@@ -20,7 +20,7 @@ use Rattle.gateway.specs.Numbers.{stateNumber}
 use Rattle.gateway.proofs.Changes.{isLeading, Taking, took-changes}
 use Rattle.gateway.proofs.SameIdentity.{Taken, took-same}
 use Rattle.rows.proofs.Tests.{ite-lt, ite-le}
-use Rattle.ring.specs.Ring.{Ring, puts, announces, prev, queueOf, becoming, queueing, putting, taking}
+use Rattle.ring.specs.Ring.{Ring, puts, announces, prev, queueOf, becoming, putting, taking}
 use Rattle.ring.specs.Gateways.{gateways, starting, procAt, isIn, wanted}
 use Rattle.ring.proofs.Moves.{move-in, move-out}
 use Rattle.ring.proofs.Good.{prev-below}
@@ -52,10 +52,6 @@ use Rattle.table.proofs.Changing.{Laid, record-is, became, entered-is, 
 pub prev-else : (n j : ℕ) → (j ≡ 0 → ⊥) → j - 1 ≡ prev n j
 prev-else n zero h = absurd (h refl)
 prev-else n (suc j) h = omega arith
-
-pub not-none : (n : ℕ) → (n ≡ 0 → ⊥) → 1 ≤ n
-not-none zero h = absurd (h refl)
-not-none (suc n) h = omega arith
 
 pub within-same : (t t₁ : List ℕ) (c j : ℕ) → Within t c j → length t₁ ≡ length t → Within t₁ c j
 within-same t t₁ c j w e = record {
@@ -190,27 +186,41 @@ module _ (t : List ℕ) (n c : ℕ) (f : Formed t n c) where
       pub take-wrong : x ≡ Wrong → (9, t) ≡ coded t j (served t j (wanted p Takes))
       take-wrong e = let w : took p m ≡ Wrong = sym ex ∙ e in rw (← ei-t, front .1, w)
 
-      pub take-done : (p′ : Proc) (t₁ t₂ : List ℕ) → p ≡ procAt (ringOf t) j → x ≡ Becomes p′ →
-          t₁ ≡ withRecord t c i (takenWords (recordAt t c i)) →
-          t₂ ≡ withRecord t₁ c j (becameWords (recordAt t₁ c j) p′) →
-          (codeMoved, t₂) ≡ coded t j (served t j (wanted p Takes))
-      take-done p′ t₁ t₂ ep e e₁ e₂ =
-          let R = ringOf t in
-          let q = front in
-          let fits : length (queueOf R i) ≤ c = rw (f .capacity) (so .good .fitting i i-below) in
-          let l₁ : Laid t₁ n c (queueing R i (q .0)) (restOf t) =
-          record {
-            image = e₁ ∙ took-is t n c R (restOf t) laid i (below-n i i-below) m (q .0) (q .1) fits;
-            procs = laid .procs;
-            queues = simp length-set (laid .queues);
-          } in
-          let w : took p m ≡ Becomes p′ = sym ex ∙ e in
-          let same : Taken (p .ident) (Becomes p′) = rw w at (took-same p m) in
-          let quiet : Taking (Becomes p′) = rw w at (took-changes p m) in
-          let words : t₂ ≡ tableWords n c (taking R j i (q .0) p′) ++ restOf t =
-          e₂ ∙ became t₁ n c (queueing R i (q .0)) (restOf t) l₁ j (below-n j below) p′
-          (same ∙ ap (λ (p : Proc). p .ident) ep) in
-          rw (← ei-t, q .1, w, there j below p′, quiet, rewrites (taking R j i (q .0) p′) t₂ words)
+      -- it takes: it becomes p′, and then the message leaves the queue
+      module _ (p′ : Proc) (ep : p ≡ procAt (ringOf t) j) (e : x ≡ Becomes p′) (t₁ : List ℕ)
+          (e₁ : t₁ ≡ withRecord t c j (becameWords (recordAt t c j) p′)) where
+        w : took p m ≡ Becomes p′
+        w = sym ex ∙ e
+
+        became-laid : Laid t₁ n c (becoming (ringOf t) j p′) (restOf t)
+        became-laid =
+            let same : Taken (p .ident) (Becomes p′) = rw w at (took-same p m) in
+            record {
+              image =
+                  e₁ ∙ became t n c (ringOf t) (restOf t) laid j (below-n j below) p′
+                  (same ∙ ap (λ (p : Proc). p .ident) ep);
+              procs = simp length-set (laid .procs);
+              queues = laid .queues;
+            }
+
+        -- the queue is as it was
+        pub still-some : 1 ≤ lengthOf (recordAt t₁ c i)
+        still-some =
+            let R = becoming (ringOf t) j p′ in
+            let words = record-is t₁ n c R (restOf t) became-laid i (below-n i i-below) in
+            rw (words, read-length c (procAt R i) (queueOf R i), front .1) (omega arith)
+
+        pub take-done : (t₂ : List ℕ) → t₂ ≡ withRecord t₁ c i (takenWords (recordAt t₁ c i)) →
+            (codeMoved, t₂) ≡ coded t j (served t j (wanted p Takes))
+        take-done t₂ e₂ =
+            let R = ringOf t in
+            let q = front in
+            let fits : length (queueOf R i) ≤ c = rw (f .capacity) (so .good .fitting i i-below) in
+            let quiet : Taking (Becomes p′) = rw w at (took-changes p m) in
+            let words : t₂ ≡ tableWords n c (taking R j i (q .0) p′) ++ restOf t =
+            e₂
+            ∙ took-is t₁ n c (becoming R j p′) (restOf t) became-laid i (below-n i i-below) m (q .0) (q .1) fits in
+            rw (← ei-t, q .1, w, there j below p′, quiet, rewrites (taking R j i (q .0) p′) t₂ words)
 
   -- what the row asks is what the choice comes to
   pub by-row : (j : ℕ) → j < countOf t → (p : Proc) → p ≡ procAt (ringOf t) j → (w : Asked.Want) → w ≡ row p →

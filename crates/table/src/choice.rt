@@ -68,8 +68,8 @@ fn take_move(table: &mut [u32], n: u32, c: u32, j: u32, p: Proc) -> u32
     match rows::take_in(p, m) {
         Took::Wrong => WRONG_KIND,
         Took::Becomes(q) => {
-            lent::take_at(table, c, i);
             lent::set_proc_at(table, c, j, q);
+            lent::take_at(table, c, i);
             MOVED
         }
     }

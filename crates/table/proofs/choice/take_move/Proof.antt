@@ -1,5 +1,5 @@
 use mathlib.Core.Path.{sym, _∙_}
-use Rattle.table.proofs.Moves.{within, within-same, not-none, i-below, take-empty, take-wrong, take-done}
+use Rattle.table.proofs.Moves.{within, within-same, i-below, take-empty, take-wrong, still-some, take-done}
 use borrow.Author.Needs.{needs}
 use Rattle.table.proofs.choice.take_move.Statement.{statement}
 use Rattle.table.proofs.choice.take_move.Tie as tie
@@ -30,24 +30,39 @@ oldest-at-requires c κs =
     let low = i-below t (a .n) (a .c) (s .pre .0) (a .j) (s .pre .1) (i .result) (i .ensures) (a .p) in
     within t (a .n) (a .c) (s .pre .0) (i .result) low
 
-take-at-requires : tie.Need-take-at-requires
-take-at-requires c κs =
-    let s = c .before .before .before .before .before .before .before .before .before .before .before .before in
-    let a = s .args in
-    let t = a .table .now in
-    let i = c .before .before .before .before .before .before .before .before .before .before .before2 in
-    let low = i-below t (a .n) (a .c) (s .pre .0) (a .j) (s .pre .1) (i .result) (i .ensures) (a .p) in
-    let some = c .before .before .before .before .before .before .before .if1 .left in
-    let long = c .before .before .before .before .before .before .before .before .length-at .ensures in
-    (within t (a .n) (a .c) (s .pre .0) (i .result) low, not-none _ (λ z. some (long ∙ z)))
-
 set-proc-at-requires : tie.Need-set-proc-at-requires
 set-proc-at-requires c κs =
+    let s = c .before .before .before .before .before .before .before .before .before .before .before .before in
+    let a = s .args in
+    within (a .table .now) (a .n) (a .c) (s .pre .0) (a .j) (s .pre .1)
+
+take-at-requires : tie.Need-take-at-requires
+take-at-requires c κs =
     let s = c .before .before .before .before .before .before .before .before .before .before .before .before .before .before .before .before in
     let a = s .args in
     let t = a .table .now in
-    let g = c .before .before .before .take-at in
-    within-same t (g .last .0) (a .c) (a .j) (within t (a .n) (a .c) (s .pre .0) (a .j) (s .pre .1)) (g .kept .0)
+    let i = c .before .before .before .before .before .before .before .before .before .before .before .before .before .before .before2 in
+    let len = c .before .before .before .before .before .before .before .before .before .before .before .before .length-at in
+    let m = c .before .before .before .before .before .before .before .before .before .oldest-at in
+    let x = c .before .before .before .before .before .before .before .before .take-in in
+    let q = c .before .before .before .before .before .before .q .given in
+    let g = c .before .before .before .set-proc-at in
+    let low = i-below t (a .n) (a .c) (s .pre .0) (a .j) (s .pre .1) (i .result) (i .ensures) (a .p) in
+    (
+      within-same t (g .last .0) (a .c) (i .result) (within t (a .n) (a .c) (s .pre .0) (i .result) low) (g .kept .0),
+      still-some t (a .n) (a .c) (s .pre .0) (a .j) (s .pre .1) (i .result) (i .ensures) (a .p) (len .result)
+          (len .ensures)
+          (c .before .before .before .before .before .before .before .before .before .before .before .if1 .left)
+          (m .result)
+          (m .ensures)
+          (x .result)
+          (x .ensures)
+          (q .0 .0)
+          (s .pre .2)
+          (q .1)
+          (g .last .0)
+          (g .ensures),
+    )
 
 returns-2 : tie.Need-returns-2
 returns-2 c =
@@ -55,11 +70,11 @@ returns-2 c =
     let a = s .args in
     let i = c .before .before .before .before .before .before .before .before .before2 in
     let len = c .before .before .before .before .before .before .length-at in
-    let some = c .before .before .before .before .before .if1 .left in
     let m = c .before .before .before .oldest-at in
     let x = c .before .before .take-in in
     take-wrong (a .table .now) (a .n) (a .c) (s .pre .0) (a .j) (s .pre .1) (i .result) (i .ensures) (a .p)
-    (len .result) (len .ensures) some (m .result) (m .ensures) (x .result) (x .ensures) (c .enum-told .given .1)
+    (len .result) (len .ensures) (c .before .before .before .before .before .if1 .left) (m .result) (m .ensures) (x .result) (x .ensures)
+    (c .enum-told .given .1)
 
 returns-3 : tie.Need-returns-3
 returns-3 c =
@@ -67,19 +82,18 @@ returns-3 c =
     let a = s .args in
     let i = c .before .before .before .before .before .before .before .before .before .before .before .before .before .before .before .before .before .before2 in
     let len = c .before .before .before .before .before .before .before .before .before .before .before .before .before .before .before .length-at in
-    let some = c .before .before .before .before .before .before .before .before .before .before .before .before .before .before .if1 .left in
     let m = c .before .before .before .before .before .before .before .before .before .before .before .before .oldest-at in
     let x = c .before .before .before .before .before .before .before .before .before .before .before .take-in in
     let q = c .before .before .before .before .before .before .before .before .before .q .given in
-    let g = c .before .before .before .before .before .before .take-at in
-    let w = c .before .before .set-proc-at in
+    let g = c .before .before .before .before .before .before .set-proc-at in
+    let w = c .before .before .take-at in
     take-done (a .table .now) (a .n) (a .c) (s .pre .0) (a .j) (s .pre .1) (i .result) (i .ensures) (a .p)
-    (len .result) (len .ensures) some (m .result) (m .ensures) (x .result) (x .ensures) (q .0 .0) (g .last .0) (w .last .0) (s .pre .2) (q .1)
-    (g .ensures) (w .ensures)
+    (len .result) (len .ensures) (c .before .before .before .before .before .before .before .before .before .before .before .before .before .before .if1 .left) (m .result) (m .ensures) (x .result) (x .ensures) (q .0 .0)
+    (s .pre .2) (q .1) (g .last .0) (g .ensures) (w .last .0) (w .ensures)
 
 pub take-move-spec : {M : Type 1} → statement M
 take-move-spec =
     tie.close
     (tie.spec (λ c κs. search needs) length-at-requires (λ c. search needs) returns oldest-at-requires
-    (λ c κs. search needs) (λ c. search needs) (λ c. search needs) take-at-requires set-proc-at-requires
+    (λ c κs. search needs) (λ c. search needs) (λ c. search needs) set-proc-at-requires take-at-requires
     (λ c. search needs) returns-2 (λ c. search needs) returns-3)
