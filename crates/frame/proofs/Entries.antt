@@ -1,4 +1,5 @@
--- The demands on frames, of every outcome that the contracts of `frame::read` and `frame::write` allow. Assumes nothing.
+-- The demands on frames, of every outcome that the contracts of `frame::read` and `frame::write` allow.
+-- Assumes nothing.
 use Prim.Native.Nat.{ℕ, _^_, _≤_, _<_}
 use mathlib.Core.Path.{_≡_, sym, ap, _∙_, subst}
 use mathlib.Core.List.{List, _++_}

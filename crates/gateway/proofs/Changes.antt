@@ -1,4 +1,5 @@
--- Putting and announcing change the state of a process alone, and only an announcement leads to state 6. Assumes nothing.
+-- Putting and announcing change the state of a process alone, and only an announcement leads to state 6.
+-- Assumes nothing.
 use Prim.Native.Nat.{ℕ, max, _<_}
 use mathlib.Core.Path.{_≡_, refl}
 use mathlib.Core.Bool.{Bool, true, false}

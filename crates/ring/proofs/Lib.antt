@@ -9,3 +9,4 @@ pub mod Largest
 pub mod SameIdentities
 pub mod Running
 pub mod Leaders
+pub mod Joining

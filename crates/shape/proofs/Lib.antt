@@ -2,3 +2,4 @@
 pub mod Idents
 pub mod Sizes
 pub mod Verdicts
+pub mod Settled

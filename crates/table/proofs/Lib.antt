@@ -7,3 +7,5 @@ pub mod Moves
 pub mod Laying
 pub mod Answers
 pub mod Turns
+pub mod Settled
+pub mod Entries

@@ -1,14 +1,12 @@
 -- What the code's lends and stores make of a well-formed table, as moves of its ring. Assumes nothing.
 use Prim.Native.Nat.{ℕ, zero, suc, _-_, _<_, _≤_}
 use mathlib.Core.Path.{_≡_, refl, sym, ap, _∙_}
-use mathlib.Core.Bool.{Bool, true, false, cond}
+use mathlib.Core.Bool.{true, false}
 use mathlib.Core.List.{List, [], _∷_, _++_}
 use native.Mathlib.Omega.{arith}
 use lib.ListN.{length, getD, set, length-set}
 use lib.Seq.{getD-set-same}
-use lib.Dec.{eqb}
 use Rattle.gateway.specs.declared.State.{State}
-use Rattle.gateway.specs.declared.State.the-variants.{Leads}
 use Rattle.gateway.specs.declared.Proc.{Proc}
 use Rattle.gateway.specs.declared.Msg.{Msg}
 use Rattle.gateway.specs.declared.Want as Asked
@@ -16,12 +14,11 @@ use Rattle.gateway.specs.declared.Want.the-variants.{Takes}
 use Rattle.gateway.specs.declared.Took.{Took}
 use Rattle.gateway.specs.declared.Took.the-variants.{Becomes, Wrong}
 use Rattle.gateway.specs.Row.{inState, row, took}
-use Rattle.gateway.specs.Numbers.{stateNumber}
 use Rattle.gateway.proofs.Changes.{isLeading, Taking, took-changes}
 use Rattle.gateway.proofs.SameIdentity.{Taken, took-same}
 use Rattle.rows.proofs.Tests.{ite-lt, ite-le}
 use Rattle.ring.specs.Ring.{Ring, puts, announces, prev, queueOf, becoming, putting, taking}
-use Rattle.ring.specs.Gateways.{gateways, starting, procAt, isIn, wanted}
+use Rattle.ring.specs.Gateways.{gateways, starting, procAt, wanted}
 use Rattle.ring.proofs.Moves.{move-in, move-out}
 use Rattle.ring.proofs.Good.{prev-below}
 use Rattle.words.specs.Table.{tableWords, countOf, capacityOf, recordAt, restOf, readProc, lengthOf, ringOf}

@@ -2,7 +2,7 @@
 use Prim.Native.Nat.{ℕ, suc, _+_, _<_, _≤_}
 use mathlib.Core.Path.{_≡_, refl, sym, ap, _∙_}
 use mathlib.Core.Bool.{Bool, true, false, cond}
-use mathlib.Core.List.{List, [], _∷_}
+use mathlib.Core.List.{List}
 use native.Mathlib.Nat.{add-zero}
 use native.Mathlib.Numerals.{add-one}
 use native.Mathlib.Omega.{arith}
@@ -123,7 +123,8 @@ module _ (t₀ schedule : List ℕ) (budget : ℕ) (t : List ℕ) (over : Bool) 
         ≡ running n c schedule (ringOf t₀) budget 0 0
     next o e =
         rw (add-one i)
-        (sym (run-on gateways n c (hasLeader n) (ringOf t) budget taken skipped quiet x (drop (suc i) schedule) left o e)
+        (sym (run-on gateways n c (hasLeader n) (ringOf t) budget taken skipped quiet x (drop (suc i) schedule) left o
+        e)
         ∙ sym (ap (λ (l : List ℕ). running n c l (ringOf t) budget taken skipped) (drop-cons schedule i 0 here))
         ∙ g .same)
 
@@ -154,28 +155,29 @@ module _ (t₀ schedule : List ℕ) (budget : ℕ) (t : List ℕ) (over : Bool) 
       same = rw (add-zero taken) at (next (refused y) (refusing y e));
     }
 
-    module _ (code : ℕ) (last : List ℕ) (e : (code, last) ≡ coded t x (moveOf t x)) (kept : length last ≡ length t) where
-      pub went : code ≤ codeAnnounced →
-          Going t₀ schedule budget last (eqb code codeAnnounced) (i + 1) (taken + 1) skipped
-      went h = go code last (came-is t x code last e) h kept
-        where
-          go : (code : ℕ) (last : List ℕ) → Came t x code last → code ≤ codeAnnounced → length last ≡ length t →
-              Going t₀ schedule budget last (eqb code codeAnnounced) (i + 1) (taken + 1) skipped
-          go _ _ (moves R e) h kept = rw (told (isIn Leads R x)) (moved R e kept)
-            where
-              told : (b : Bool) → eqb (cond b codeAnnounced codeMoved) codeAnnounced ≡ b
-              told true = refl
-              told false = refl
-          go _ _ (refuses y e l back) h kept = absurd (omega arith)
+    module _ (code : ℕ) (last : List ℕ) (e : (code, last) ≡ coded t x (moveOf t x)) (kept : length last ≡ length t)
+      where
+        pub went : code ≤ codeAnnounced →
+            Going t₀ schedule budget last (eqb code codeAnnounced) (i + 1) (taken + 1) skipped
+        went h = go code last (came-is t x code last e) h kept
+          where
+            go : (code : ℕ) (last : List ℕ) → Came t x code last → code ≤ codeAnnounced → length last ≡ length t →
+                Going t₀ schedule budget last (eqb code codeAnnounced) (i + 1) (taken + 1) skipped
+            go _ _ (moves R e) h kept = rw (told (isIn Leads R x)) (moved R e kept)
+              where
+                told : (b : Bool) → eqb (cond b codeAnnounced codeMoved) codeAnnounced ≡ b
+                told true = refl
+                told false = refl
+            go _ _ (refuses y e l back) h kept = absurd (omega arith)
 
-      pub stayed : codeAnnounced < code → Going t₀ schedule budget last over (i + 1) taken (skipped + 1)
-      stayed h = go code last (came-is t x code last e) h
-        where
-          go : (code : ℕ) (last : List ℕ) → Came t x code last → codeAnnounced < code →
-              Going t₀ schedule budget last over (i + 1) taken (skipped + 1)
-          go _ _ (moves R e) h = absurd (low (isIn Leads R x) h)
-            where
-              low : (b : Bool) → codeAnnounced < cond b codeAnnounced codeMoved → ⊥
-              low true l = omega arith
-              low false l = omega arith
-          go _ _ (refuses y e l back) h = stays y e
+        pub stayed : codeAnnounced < code → Going t₀ schedule budget last over (i + 1) taken (skipped + 1)
+        stayed h = go code last (came-is t x code last e) h
+          where
+            go : (code : ℕ) (last : List ℕ) → Came t x code last → codeAnnounced < code →
+                Going t₀ schedule budget last over (i + 1) taken (skipped + 1)
+            go _ _ (moves R e) h = absurd (low (isIn Leads R x) h)
+              where
+                low : (b : Bool) → codeAnnounced < cond b codeAnnounced codeMoved → ⊥
+                low true l = omega arith
+                low false l = omega arith
+            go _ _ (refuses y e l back) h = stays y e

@@ -16,7 +16,7 @@ use Rattle.gateway.specs.declared.Proc.{Proc}
 use Rattle.gateway.specs.declared.Msg.{Msg}
 use Rattle.gateway.specs.Row.{msg}
 use Rattle.gateway.specs.Numbers.{stateNumber, kindNumber, kindOf}
-use Rattle.ring.specs.Ring.{Ring, Out, refused, made, move, serve, prev, Want}
+use Rattle.ring.specs.Ring.{Out, refused, made, move, serve, prev, Want}
 use Rattle.ring.specs.Gateways.{gateways, isIn}
 use Rattle.words.specs.Layout.{
   mostProcesses,

@@ -14,7 +14,7 @@ ghost use Rattle.gateway.specs.declared.Want.the-variants.{Takes};
 ghost use Rattle.gateway.specs.Row.{inState};
 ghost use Rattle.ring.specs.Ring.{prev, puts};
 ghost use Rattle.ring.specs.Gateways.{wanted, procAt};
-ghost use Rattle.words.specs.Table.{countOf, capacityOf, ringOf};
+ghost use Rattle.words.specs.Table.{countOf, ringOf};
 ghost use Rattle.table.specs.Inside.{Formed, isLeads, coded, served, moveOf, answerOf};
 
 // A move that announced nothing, and one that announced.

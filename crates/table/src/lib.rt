@@ -1,5 +1,5 @@
-// The ring as a lent slice of words: start, step, run, who leads. The definitions of words say, for every input, what each
-// call answers and every word it leaves; a refusal changes none.
+// The ring as a lent slice of words: start, step, run, who leads. The definitions of words say, for every input, what
+// each call answers and every word it leaves; a refusal changes none.
 use refusal::Answer;
 use refusal::Refusal;
 use shape::identities;

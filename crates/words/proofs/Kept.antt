@@ -50,11 +50,16 @@ module _ (t : List ℕ) (ok : wellFormed t ≡ true) where
       go (made R) e = rewritten-formed R (move-fits (countOf t) (capacityOf t) (ringOf t) j R fits e)
 
   -- and so does a run
+  pub run-fits : (schedule : List ℕ) (budget : ℕ) →
+      Fits (countOf t) (capacityOf t) (running (countOf t) (capacityOf t) schedule (ringOf t) budget 0 0 .ring)
+  run-fits schedule budget =
+      let n = countOf t in
+      let c = capacityOf t in
+      run-keeps gateways n c (hasLeader n) (Fits n c) (move-fits n c) schedule (ringOf t) budget 0 0 fits
+
   pub run-formed : (schedule : List ℕ) (budget : ℕ) → wellFormed (runOf t schedule budget .1) ≡ true
   unfolding runOf
   run-formed schedule budget =
-      let n = countOf t in
-      let c = capacityOf t in
       rw ok
-      (rewritten-formed (running n c schedule (ringOf t) budget 0 0 .ring)
-      (run-keeps gateways n c (hasLeader n) (Fits n c) (move-fits n c) schedule (ringOf t) budget 0 0 fits))
+      (rewritten-formed (running (countOf t) (capacityOf t) schedule (ringOf t) budget 0 0 .ring)
+      (run-fits schedule budget))

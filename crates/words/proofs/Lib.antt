@@ -9,6 +9,9 @@ pub mod Formed
 pub mod Outside
 pub mod Kept
 pub mod Beside
+pub mod StepByStep
+pub mod Ended
+pub mod Joining
 pub mod Starts
 pub mod Sizes
 pub mod Told

@@ -1,3 +1,4 @@
+-- `table::leads` is who leads by the definitions. Assumes nothing.
 use mathlib.Core.Path.{sym, _∙_}
 use native.Mathlib.Omega.{arith}
 use borrow.Author.Tests.{not-true, not-false}
@@ -8,40 +9,56 @@ use Rattle.table.proofs.leads.Statement.{statement}
 use Rattle.table.proofs.leads.Tie as tie
 
 returns : tie.Need-returns
-returns c = leads-malformed (c .before .before .before .args .table .now) (sym (c .before .well-formed .ensures) ∙ not-true _ (c .if1 .taken))
+returns c =
+    let c3 = c .before .before .before in
+    leads-malformed (c3 .args .table .now) (sym (c .before .well-formed .ensures) ∙ not-true _ (c .if1 .taken))
 
 shared-slice-read-n : tie.Need-shared-slice-read-n
 shared-slice-read-n c =
-    let t = c .before .before .before .before .args .table .now in
+    let c4 = c .before .before .before .before in
+    let t = c4 .args .table .now in
     omega (arith, head-there t (sym (c .before .before .well-formed .ensures) ∙ not-false _ (c .before .if1 .left)))
 
 shared-slice-read-c : tie.Need-shared-slice-read-c
 shared-slice-read-c c =
-    let t = c .before .before .before .before .before .args .table .now in
-    omega (arith, head-there t (sym (c .before .before .before .well-formed .ensures) ∙ not-false _ (c .before .before .if1 .left)))
+    let c3 = c .before .before .before in
+    let c5 = c3 .before .before in
+    let t = c5 .args .table .now in
+    omega (arith, head-there t (sym (c3 .well-formed .ensures) ∙ not-false _ (c .before .before .if1 .left)))
 
 lowest-requires : tie.Need-lowest-requires
 lowest-requires c κs =
-    let t = c .before .before .before .before .before .args .table .now in
-    formed-here t (sym (c .before .before .before .well-formed .ensures) ∙ not-false _ (c .before .before .if1 .left))
+    let c3 = c .before .before .before in
+    let c5 = c3 .before .before in
+    let t = c5 .args .table .now in
+    formed-here t (sym (c3 .well-formed .ensures) ∙ not-false _ (c .before .before .if1 .left))
 
 returns-2 : tie.Need-returns-2
 returns-2 c =
-    let t = c .before .before .before .before .before .before .before .args .table .now in
-    let ok = sym (c .before .before .before .before .before .well-formed .ensures) ∙ not-false _ (c .before .before .before .before .if1 .left) in
+    let c4 = c .before .before .before .before in
+    let c5 = c4 .before in
+    let c7 = c5 .before .before in
+    let t = c7 .args .table .now in
+    let ok = sym (c5 .well-formed .ensures) ∙ not-false _ (c4 .if1 .left) in
     let j = c .before .lowest in
     leads-nobody t ok (j .result) (j .ensures) (c .if2 .taken)
 
 read-at-requires : tie.Need-read-at-requires
 read-at-requires c κs =
-    let t = c .before .before .before .before .before .before .before .args .table .now in
-    let ok = sym (c .before .before .before .before .before .well-formed .ensures) ∙ not-false _ (c .before .before .before .before .if1 .left) in
+    let c4 = c .before .before .before .before in
+    let c5 = c4 .before in
+    let c7 = c5 .before .before in
+    let t = c7 .args .table .now in
+    let ok = sym (c5 .well-formed .ensures) ∙ not-false _ (c4 .if1 .left) in
     within t _ _ (formed-here t ok) (c .before .lowest .result) (c .if2 .left)
 
 returns-3 : tie.Need-returns-3
 returns-3 c =
-    let t = c .before .before .before .before .before .before .before .before .args .table .now in
-    let ok = sym (c .before .before .before .before .before .before .well-formed .ensures) ∙ not-false _ (c .before .before .before .before .before .if1 .left) in
+    let c5 = c .before .before .before .before .before in
+    let c6 = c5 .before in
+    let c8 = c6 .before .before in
+    let t = c8 .args .table .now in
+    let ok = sym (c6 .well-formed .ensures) ∙ not-false _ (c5 .if1 .left) in
     let j = c .before .before .lowest in
     let low = c .before .if2 .left in
     let p = c .read-at in

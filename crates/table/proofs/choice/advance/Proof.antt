@@ -1,3 +1,4 @@
+-- `table::choice::advance` is what comes of a choice, as a number and in words. Assumes nothing.
 use mathlib.Core.Path.{refl, sym, ap, _∙_}
 use Rattle.gateway.specs.Row.{inState}
 use Rattle.gateway.proofs.Changes.{puts-changes, announces-changes}
@@ -16,19 +17,24 @@ returns c =
 
 read-at-requires : tie.Need-read-at-requires
 read-at-requires c κs =
-    let s = c .before .before .before in
+    let c3 = c .before .before .before in
+    let s = c3 in
     let a = s .args in
     within (a .table .now) (a .n) (a .c) (s .pre) (a .j) (is-process _ _ _ (s .pre) (a .j) (c .before .if1 .left))
 
 put-move-requires : tie.Need-put-move-requires
 put-move-requires c κs =
-    let s = c .before .before .before .before .before .before .before .before .before in
+    let c4 = c .before .before .before .before in
+    let c5 = c4 .before in
+    let c7 = c5 .before .before in
+    let c9 = c7 .before .before in
+    let s = c9 in
     let a = s .args in
     let t = a .table .now in
-    let low = is-process _ _ _ (s .pre) (a .j) (c .before .before .before .before .before .before .before .if1 .left) in
-    let w = c .before .before .before .before .wants in
+    let low = is-process _ _ _ (s .pre) (a .j) (c7 .if1 .left) in
+    let w = c4 .wants in
     let m = c .before .before .m .given in
-    let went = puts-changes (c .before .before .before .before .before .read-at .result) _ _ (sym (w .ensures) ∙ m .1) in
+    let went = puts-changes (c5 .read-at .result) _ _ (sym (w .ensures) ∙ m .1) in
     (formed-count t (a .n) (a .c) (s .pre), low, went .leads)
 
 take-move-requires : tie.Need-take-move-requires
@@ -42,20 +48,27 @@ take-move-requires c κs =
 
 set-state-at-requires : tie.Need-set-state-at-requires
 set-state-at-requires c κs =
-    let s = c .before .before .before .before .before .before .before .before .before in
+    let c7 = c .before .before .before .before .before .before .before in
+    let c9 = c7 .before .before in
+    let s = c9 in
     let a = s .args in
-    within (a .table .now) (a .n) (a .c) (s .pre) (a .j) (is-process _ _ _ (s .pre) (a .j) (c .before .before .before .before .before .before .before .if1 .left))
+    within (a .table .now) (a .n) (a .c) (s .pre) (a .j) (is-process _ _ _ (s .pre) (a .j) (c7 .if1 .left))
 
 returns-2 : tie.Need-returns-2
 returns-2 c =
-    let s = c .before .before .before .before .before .before .before .before .before .before .before .before in
+    let c5 = c .before .before .before .before .before in
+    let c7 = c5 .before .before in
+    let c8 = c7 .before in
+    let c10 = c8 .before .before in
+    let c12 = c10 .before .before in
+    let s = c12 in
     let a = s .args in
     let t = a .table .now in
-    let low = is-process _ _ _ (s .pre) (a .j) (c .before .before .before .before .before .before .before .before .before .before .if1 .left) in
-    let r = c .before .before .before .before .before .before .before .before .read-at in
+    let low = is-process _ _ _ (s .pre) (a .j) (c10 .if1 .left) in
+    let r = c8 .read-at in
     let p = r .ensures ∙ read-is t (a .n) (a .c) (s .pre) (a .j) low in
-    let w = c .before .before .before .before .before .before .before .wants in
-    let m = c .before .before .before .before .before .m .given in
+    let w = c7 .wants in
+    let m = c5 .m .given in
     let went = puts-changes (r .result) _ _ (sym (w .ensures) ∙ m .1) in
     by-row t (a .n) (a .c) (s .pre) (a .j) low (r .result) p _ (sym (m .1) ∙ w .ensures) _
     (c .before .before .put-move .ensures
@@ -64,25 +77,35 @@ returns-2 c =
 
 returns-3 : tie.Need-returns-3
 returns-3 c =
-    let s = c .before .before .before .before .before .before .before .before .before .before .before in
+    let c4 = c .before .before .before .before in
+    let c6 = c4 .before .before in
+    let c7 = c6 .before in
+    let c9 = c7 .before .before in
+    let c11 = c9 .before .before in
+    let s = c11 in
     let a = s .args in
     let t = a .table .now in
-    let low = is-process _ _ _ (s .pre) (a .j) (c .before .before .before .before .before .before .before .before .before .if1 .left) in
-    let r = c .before .before .before .before .before .before .before .read-at in
+    let low = is-process _ _ _ (s .pre) (a .j) (c9 .if1 .left) in
+    let r = c7 .read-at in
     let p = r .ensures ∙ read-is t (a .n) (a .c) (s .pre) (a .j) low in
-    by-row t (a .n) (a .c) (s .pre) (a .j) low (r .result) p _ (sym (c .before .before .before .before .enum-told .given .1) ∙ c .before .before .before .before .before .before .wants .ensures) _
+    by-row t (a .n) (a .c) (s .pre) (a .j) low (r .result) p _ (sym (c4 .enum-told .given .1) ∙ c6 .wants .ensures) _
     (c .before .before .take-move .ensures)
 
 returns-4 : tie.Need-returns-4
 returns-4 c =
-    let s = c .before .before .before .before .before .before .before .before .before .before .before .before in
+    let c5 = c .before .before .before .before .before in
+    let c7 = c5 .before .before in
+    let c8 = c7 .before in
+    let c10 = c8 .before .before in
+    let c12 = c10 .before .before in
+    let s = c12 in
     let a = s .args in
     let t = a .table .now in
-    let low = is-process _ _ _ (s .pre) (a .j) (c .before .before .before .before .before .before .before .before .before .before .if1 .left) in
-    let r = c .before .before .before .before .before .before .before .before .read-at in
+    let low = is-process _ _ _ (s .pre) (a .j) (c10 .if1 .left) in
+    let r = c8 .read-at in
     let p = r .ensures ∙ read-is t (a .n) (a .c) (s .pre) (a .j) low in
-    let w = c .before .before .before .before .before .before .before .wants in
-    let q = c .before .before .before .before .before .q .given in
+    let w = c7 .wants in
+    let q = c5 .q .given in
     let went = announces-changes (r .result) _ (sym (w .ensures) ∙ q .1) in
     let g = c .before .before .set-state-at in
     by-row t (a .n) (a .c) (s .pre) (a .j) low (r .result) p _ (sym (q .1) ∙ w .ensures) _
@@ -91,13 +114,17 @@ returns-4 c =
 
 returns-5 : tie.Need-returns-5
 returns-5 c =
-    let s = c .before .before .before .before .before .before .before in
+    let c3 = c .before .before .before in
+    let c5 = c3 .before .before in
+    let c7 = c5 .before .before in
+    let s = c7 in
     let a = s .args in
     let t = a .table .now in
-    let low = is-process _ _ _ (s .pre) (a .j) (c .before .before .before .before .before .if1 .left) in
-    let r = c .before .before .before .read-at in
+    let low = is-process _ _ _ (s .pre) (a .j) (c5 .if1 .left) in
+    let r = c3 .read-at in
     let p = r .ensures ∙ read-is t (a .n) (a .c) (s .pre) (a .j) low in
-    by-row t (a .n) (a .c) (s .pre) (a .j) low (r .result) p _ (sym (c .enum-told2 .given .1) ∙ c .before .before .wants .ensures) _
+    let w = sym (c .enum-told2 .given .1) ∙ c .before .before .wants .ensures in
+    by-row t (a .n) (a .c) (s .pre) (a .j) low (r .result) p _ w _
     refl
 
 pub advance-spec : {M : Type 1} → statement M

@@ -1,3 +1,4 @@
+-- `table::choice::put_move` is a row that puts, carried out or refused. Assumes nothing.
 use Rattle.table.proofs.Moves.{within, put-done, put-full}
 use borrow.Author.Needs.{needs}
 use Rattle.table.proofs.choice.put_move.Statement.{statement}
@@ -25,9 +26,12 @@ put-at-requires c κs =
 
 returns-2 : tie.Need-returns-2
 returns-2 c =
-    let s = c .before .before .before .before .before .before .before .before in
+    let c4 = c .before .before .before .before in
+    let c5 = c4 .before in
+    let c8 = c5 .before .before .before in
+    let s = c8 in
     let a = s .args in
-    let room = rw (c .before .before .before .before .before .length-at .ensures) at (c .before .before .before .before .if1 .left) in
+    let room = rw (c5 .length-at .ensures) at (c4 .if1 .left) in
     let g = c .before .before .put-at in
     put-done (a .table .now) _ (a .c) (s .pre .0) (a .j) (s .pre .1) (a .m) (a .s) (g .last .0) (s .pre .2) room
     (g .ensures)

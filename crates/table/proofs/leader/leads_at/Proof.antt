@@ -1,3 +1,4 @@
+-- `table::leader::leads_at` tells whether process j is in state 6. Assumes nothing.
 use mathlib.Core.Path.{_∙_}
 use Rattle.table.proofs.Moves.{within, read-is}
 use borrow.Author.Needs.{needs}

@@ -24,10 +24,12 @@ abbrev μ-loop : tie.MeasureT-loop
 
 leads-at-requires : tie.Need-leads-at-requires Inv-loop μ-loop
 leads-at-requires c κs =
-    let s = c .before .before .before in
+    let c3 = c .before .before .before in
+    let s = c3 in
     let a = s .args in
     let t = a .table .now in
-    (formed-count t (a .n) (a .c) (s .pre), is-process t (a .n) (a .c) (s .pre) (c .before .loop .j) (c .loop-test .taken))
+    let low = is-process t (a .n) (a .c) (s .pre) (c .before .loop .j) (c .loop-test .taken) in
+    (formed-count t (a .n) (a .c) (s .pre), low)
 
 returns : tie.Need-returns Inv-loop μ-loop
 returns c =

@@ -1,3 +1,4 @@
+-- `table::lent::oldest_at` gives the message of slot 0 of record j. Assumes nothing.
 use mathlib.Core.Path.{_∙_, ap}
 use Rattle.table.specs.Inside.{oldestOf}
 use Rattle.words.proofs.Tables.{record-part}
@@ -7,8 +8,10 @@ use Rattle.table.proofs.lent.oldest_at.Tie as tie
 
 returns : tie.Need-returns
 returns c =
-    let a = c .before .before .before .before .before .args in
-    let at = c .before .before .before .place in
+    let c3 = c .before .before .before in
+    let c5 = c3 .before .before in
+    let a = c5 .args in
+    let at = c3 .place in
     let wide = c .before .before .width in
     c .oldest .ensures
     ∙ ap oldestOf (record-part (a .c) (a .j) (at .result) (wide .result) (at .ensures) (wide .ensures) (a .table .now))

@@ -1,3 +1,4 @@
+-- `table::lent::place` is where a record begins. Assumes nothing.
 use native.Mathlib.Omega.{arith}
 use Rattle.table.proofs.Lending.{place-small}
 use borrow.Author.Needs.{needs}
@@ -5,10 +6,16 @@ use Rattle.table.proofs.lent.place.Statement.{statement}
 use Rattle.table.proofs.lent.place.Tie as tie
 
 mul-result : tie.Need-mul-result
-mul-result c = let s = c .before in rw (c .width .ensures) (omega (arith, place-small (s .args .c) (s .args .j) (s .pre .0) (s .pre .1)))
+mul-result c =
+    let s = c .before in
+    let small = place-small (s .args .c) (s .args .j) (s .pre .0) (s .pre .1) in
+    rw (c .width .ensures) (omega (arith, small))
 
 add-result : tie.Need-add-result
-add-result c = let s = c .before in rw (c .width .ensures) (omega (arith, place-small (s .args .c) (s .args .j) (s .pre .0) (s .pre .1)))
+add-result c =
+    let s = c .before in
+    let small = place-small (s .args .c) (s .args .j) (s .pre .0) (s .pre .1) in
+    rw (c .width .ensures) (omega (arith, small))
 
 returns : tie.Need-returns
 returns c = rw (c .width .ensures)

@@ -1,3 +1,4 @@
+-- `table::lent::put_at` fills the first free slot of record j and changes its state. Assumes nothing.
 use native.Mathlib.Omega.{arith}
 use Rattle.words.proofs.Tables.{record-part}
 use Rattle.table.proofs.Lending.{record-length, lend-put}

@@ -1,3 +1,4 @@
+-- `table::lent::read_at` gives the process of record j. Assumes nothing.
 use mathlib.Core.Path.{_∙_, ap}
 use Rattle.words.specs.Table.{readProc}
 use Rattle.words.proofs.Tables.{record-part}
@@ -7,8 +8,10 @@ use Rattle.table.proofs.lent.read_at.Tie as tie
 
 returns : tie.Need-returns
 returns c =
-    let a = c .before .before .before .before .before .args in
-    let at = c .before .before .before .place in
+    let c3 = c .before .before .before in
+    let c5 = c3 .before .before in
+    let a = c5 .args in
+    let at = c3 .place in
     let wide = c .before .before .width in
     c .read .ensures
     ∙ ap readProc (record-part (a .c) (a .j) (at .result) (wide .result) (at .ensures) (wide .ensures) (a .table .now))

@@ -1,3 +1,4 @@
+-- `table::lent::set_proc_at` leaves the words of the process given in record j, but for the identity. Assumes nothing.
 use Rattle.table.proofs.Lending.{lend-put}
 use Rattle.table.specs.Inside.{becameWords}
 use borrow.Author.Needs.{needs}

@@ -1,3 +1,4 @@
+-- `table::lent::set_state_at` changes the state word of record j alone. Assumes nothing.
 use Rattle.table.proofs.Lending.{lend-put}
 use Rattle.table.specs.Inside.{entered}
 use borrow.Author.Needs.{needs}

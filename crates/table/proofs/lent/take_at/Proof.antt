@@ -1,3 +1,4 @@
+-- `table::lent::take_at` takes the oldest message off the queue of record j. Assumes nothing.
 use native.Mathlib.Omega.{arith}
 use Rattle.table.specs.Inside.{takenWords}
 use Rattle.words.proofs.Tables.{record-part}

@@ -1,3 +1,4 @@
+-- `table::record::oldest` gives the message of slot 0. Assumes nothing.
 use borrow.Author.Needs.{needs}
 use Rattle.table.proofs.record.oldest.Statement.{statement}
 use Rattle.table.proofs.record.oldest.Tie as tie

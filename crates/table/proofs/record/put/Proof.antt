@@ -1,3 +1,4 @@
+-- `table::record::put` fills the first free slot and changes the state. Assumes nothing.
 use native.Mathlib.Omega.{arith}
 use lib.ListN.{length-set}
 use borrow.Author.Needs.{needs}

@@ -1,3 +1,4 @@
+-- `table::record::read` gives the process of a record. Assumes nothing.
 use borrow.Author.Needs.{needs}
 use Rattle.table.proofs.record.read.Statement.{statement}
 use Rattle.table.proofs.record.read.Tie as tie

@@ -1,3 +1,4 @@
+-- `table::record::set_proc` leaves the words of the process that it is given, but for the identity. Assumes nothing.
 use native.Mathlib.Omega.{arith}
 use lib.ListN.{length-set}
 use borrow.Author.Needs.{needs}

@@ -1,3 +1,4 @@
+-- `table::record::set_state` changes the state word alone. Assumes nothing.
 use borrow.Author.Needs.{needs}
 use Rattle.table.proofs.record.set_state.Statement.{statement}
 use Rattle.table.proofs.record.set_state.Tie as tie

@@ -1,3 +1,4 @@
+-- `table::record::shift` moves the slots down by one, with zeros behind. Assumes nothing.
 use Prim.Native.Nat.{_≤_, _-_, _+_}
 use mathlib.Core.Path.{_≡_}
 use mathlib.Core.List.{_++_}

@@ -1,3 +1,4 @@
+-- `table::record::take` takes the oldest message off the queue. Assumes nothing.
 use Prim.Native.Nat.{_-_}
 use mathlib.Core.Path.{_∙_}
 use native.Mathlib.Omega.{arith}

@@ -47,12 +47,16 @@ lay-record-requires c κs =
 
 loop-again : tie.Need-loop-again Inv-loop μ-loop
 loop-again c =
-    let a = c .before .before .before .before .before .before .before .before .before .before .args in
-    let w = c .before .before .before .before .before .before .before .width in
-    let l = c .before .before .before .before .before .before .loop in
+    let c5 = c .before .before .before .before .before in
+    let c6 = c5 .before in
+    let c7 = c6 .before in
+    let c10 = c7 .before .before .before in
+    let a = c10 .args in
+    let w = c7 .width in
+    let l = c6 .loop in
     let e = l .a + w .result in
     let r = c .before .before .lay-record in
-    let inside : e ≤ length (l .table) = part-lay-record-end (c .before .before .before .before .before) in (
+    let inside : e ≤ length (l .table) = part-lay-record-end (c5) in (
       search needs,
       next-place (a .c) (l .j) (l .a) (w .result) (l .inv .1) (w .ensures),
       laid-more (a .ids .now) (a .c) _ (l .table) (r .last .0) (l .j) (l .a) (w .result) (l .inv .1) (w .ensures)
