@@ -45,6 +45,14 @@ module _ (ids : List ℕ) where
   pub unrepeated-distinct : length ids ≤ firstRepeat ids → Distinct ids
   unrepeated-distinct h i j hi hj e = before-repeat-distinct i j (omega arith) (omega arith) e
 
+  -- where they are not, one repeats
+  pub undistinct-repeated : (Distinct ids → ⊥) → firstRepeat ids < length ids
+  undistinct-repeated u = go (decLt (firstRepeat ids) (length ids))
+    where
+      go : Dec (firstRepeat ids < length ids) → firstRepeat ids < length ids
+      go (yes l) = l
+      go (no l) = absurd (u (unrepeated-distinct (omega arith)))
+
   pub distinct-unrepeated : Distinct ids → firstRepeat ids ≡ length ids
   distinct-unrepeated d =
       first-none (λ i. not (isFresh (identOf ids) i)) (length ids)
@@ -59,3 +67,9 @@ module _ (ids : List ℕ) where
       not-true _ (first-holds (λ i. not (isFresh (identOf ids) i)) (length ids) h) in
       let f = some-fails (λ k. not (eqb (identOf ids k) (identOf ids i))) i stale in
       (f .0, f .1, eqb-true (identOf ids (f .0)) (identOf ids i) (not-false _ (f .2)))
+
+  -- and none before it does
+  pub none-repeats-before : (i : ℕ) → i < firstRepeat ids →
+      (k : ℕ) × (k < i) × (identOf ids k ≡ identOf ids i) → ⊥
+  none-repeats-before i h r =
+      let same = before-repeat-distinct (r .0) i (omega (arith, r .1)) h (r .2) in omega (arith, r .1)

@@ -3,6 +3,7 @@ pub mod Examples
 pub mod Tests
 pub mod Scans
 pub mod Moves
+pub mod Reasons
 pub mod Good
 pub mod Identity
 pub mod Largest

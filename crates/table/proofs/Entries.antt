@@ -1,13 +1,15 @@
 -- The demands on tables, of every outcome that the contracts of `table::start`, `step`, `run` and `leads` allow.
 -- Assumes nothing.
 use Prim.Native.Nat.{ℕ, _+_, _-_, _≤_}
-use mathlib.Core.Path.{_≡_, sym, ap, _∙_}
+use mathlib.Core.Path.{_≡_, sym, ap, subst, _∙_}
 use mathlib.Core.Bool.{true}
 use mathlib.Core.List.{List, _++_}
 use lib.ListN.{length}
 use Rattle.refusal.specs.declared.Refusal.{Refusal}
 use Rattle.refusal.specs.declared.Answer.{Answer}
 use Rattle.refusal.specs.declared.Answer.the-variants.{Done, Refused}
+use Rattle.refusal.specs.declared.Told.{Told}
+use Rattle.refusal.specs.Numbered.{told}
 use Rattle.ring.specs.Ring.{made, move}
 use Rattle.ring.specs.Gateways.{gateways, started}
 use Rattle.ring.proofs.Joining.{endOfBoth}
@@ -17,7 +19,7 @@ use Rattle.words.specs.declared.Leading.{Leading}
 use Rattle.words.specs.Layout.{tableLength}
 use Rattle.words.specs.Table.{countOf, capacityOf, ringOf}
 use Rattle.words.specs.WellFormed.{wellFormed}
-use Rattle.words.specs.Outcomes.{startOf, stepOf, runOf, leadsOf}
+use Rattle.words.specs.Outcomes.{startOf, stepOf, runOf, leadsOf, RunTold, runTold, LeadTold, leadTold}
 use Rattle.words.proofs.Refused.{start-refused, step-refused, run-refused}
 use Rattle.words.proofs.Outside.{Holds, with-more, start-beyond, step-beyond, run-beyond, leads-beyond}
 use Rattle.words.proofs.Starts.{start-formed, start-ring}
@@ -26,6 +28,16 @@ use Rattle.words.proofs.Beside.{Beside, move-ring, move-beside}
 use Rattle.words.proofs.StepByStep.{stepwise, run-by-steps}
 use Rattle.words.proofs.Ended.{step-done, run-within}
 use Rattle.words.proofs.Joining.{run-then-run}
+use Rattle.words.proofs.GivenWhen.{
+  Starts,
+  Steps,
+  Runs,
+  Leads,
+  start-exactly,
+  step-exactly,
+  run-exactly,
+  leads-exactly,
+}
 
 -- a refusal changes no word lent --
 
@@ -103,3 +115,22 @@ pub ran-then-ran : (t xs ys : List ℕ) (budget e k s : ℕ) (t₁ : List ℕ) (
     (Ran.Ended e′ k′ s′, t₂) ≡ runOf t₁ ys (budget - k) →
     (Ran.Ended (endOfBoth e e′) (k + k′) (s + s′), t₂) ≡ runOf t (xs ++ ys) budget
 ran-then-ran t xs ys budget e k s t₁ e′ k′ s′ t₂ h h′ = run-then-run t xs ys budget e k s t₁ e′ k′ s′ t₂ h h′
+
+-- each refusal number is told exactly when document 01 says, and so is the place --
+
+pub start-then-told : (t ids : List ℕ) (c : ℕ) (a : Answer) (t′ : List ℕ) (x : Told) →
+    (a, t′) ≡ startOf t ids c → x ≡ told a → Starts t ids c x
+start-then-told t ids c a t′ x h e =
+    subst (Starts t ids c) (sym (e ∙ ap (λ p. told (p .0)) h)) (start-exactly t ids c)
+
+pub step-then-told : (t : List ℕ) (j : ℕ) (a : Answer) (t′ : List ℕ) (x : Told) →
+    (a, t′) ≡ stepOf t j → x ≡ told a → Steps t j x
+step-then-told t j a t′ x h e = subst (Steps t j) (sym (e ∙ ap (λ p. told (p .0)) h)) (step-exactly t j)
+
+pub run-then-told : (t schedule : List ℕ) (budget : ℕ) (a : Ran) (t′ : List ℕ) (x : RunTold) →
+    (a, t′) ≡ runOf t schedule budget → x ≡ runTold a → Runs t x
+run-then-told t schedule budget a t′ x h e =
+    subst (Runs t) (sym (e ∙ ap (λ p. runTold (p .0)) h)) (run-exactly t schedule budget)
+
+pub leads-then-told : (t : List ℕ) (a : Leading) (x : LeadTold) → a ≡ leadsOf t → x ≡ leadTold a → Leads t x
+leads-then-told t a x h e = subst (Leads t) (sym (e ∙ ap leadTold h)) (leads-exactly t)

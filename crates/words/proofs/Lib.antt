@@ -12,7 +12,10 @@ pub mod Beside
 pub mod StepByStep
 pub mod Ended
 pub mod Joining
+pub mod Ranges
 pub mod Starts
 pub mod Sizes
 pub mod Told
 pub mod Refused
+pub mod ToldFor
+pub mod GivenWhen

@@ -1,12 +1,12 @@
 -- A start that is done leaves a well-formed table, of the started ring. Assumes nothing.
-use Prim.Native.Nat.{ℕ, _≤_}
+use Prim.Native.Nat.{ℕ}
 use mathlib.Core.Path.{_≡_, refl, sym, ap}
 use mathlib.Core.Bool.{Bool, true, false, cond, not}
 use mathlib.Core.List.{List, [], _∷_, _++_, map}
 use native.Mathlib.Omega.{arith}
-use borrow.Author.Tests.{leb-true, ltb-false, not-false}
+use borrow.Author.Tests.{ltb-false, not-false}
 use lib.ListN.{length, getD, drop, length-map, List·getD-map}
-use lib.Dec.{ltb, leb}
+use lib.Dec.{ltb}
 use Rattle.refusal.specs.declared.Refusal.{Refusal}
 use Rattle.refusal.specs.declared.Refusal.the-variants.{Count, Capacity, Short, Repeated}
 use Rattle.refusal.specs.declared.Answer.{Answer}
@@ -15,13 +15,13 @@ use Rattle.gateway.specs.declared.Proc.{Proc}
 use Rattle.gateway.specs.declared.Msg.{Msg}
 use Rattle.ring.specs.Identities.{identOf, Distinct, firstRepeat}
 use Rattle.ring.specs.Gateways.{starting, procAt, started}
-use Rattle.ring.proofs.Tests.{and-left, and-right}
 use Rattle.ring.proofs.Good.{Good}
 use Rattle.ring.proofs.Identity.{same-distinct, unrepeated-distinct}
 use Rattle.words.specs.Layout.{mostProcesses, mostCapacity, tableLength}
 use Rattle.words.specs.Table.{tableWords, ringOf}
 use Rattle.words.specs.WellFormed.{inRange, wellFormed}
 use Rattle.words.specs.Outcomes.{startOf}
+use Rattle.words.proofs.Ranges.{range-is}
 use Rattle.words.proofs.Tables.{ring-back}
 use Rattle.words.proofs.Sound.{Sized}
 use Rattle.words.proofs.Formed.{words-formed}
@@ -55,11 +55,6 @@ passed : (b : Bool) (x : Refusal) (t : List ℕ) (o : Answer × List ℕ) → co
 passed true x t o e = let z : _≡_ {A = ℕ} 0 1 = cc in absurd (omega arith)
 passed false x t o e = (refl, e)
 
-range-is : (most n : ℕ) → not (inRange most n) ≡ false → (1 ≤ n) × (n ≤ most)
-range-is most n e =
-    let r = not-false (inRange most n) e in
-    (leb-true 1 n (and-left (leb 1 n) (leb n most) r), leb-true n most (and-right (leb 1 n) (leb n most) r))
-
 pub start-ready : (t ids : List ℕ) (c : ℕ) → startOf t ids c .0 ≡ Done → Ready t ids c
 unfolding startOf
 start-ready t ids c done =
@@ -68,8 +63,8 @@ start-ready t ids c done =
     let p2 = passed (not (inRange mostCapacity c)) Capacity t _ (p1 .1) in
     let p3 = passed (ltb (length t) (tableLength n c)) Short t _ (p2 .1) in
     let p4 = passed (ltb (firstRepeat ids) n) (Repeated (firstRepeat ids)) t _ (p3 .1) in
-    let rn = range-is mostProcesses n (p1 .0) in
-    let rc = range-is mostCapacity c (p2 .0) in
+    let rn = range-is mostProcesses n (not-false _ (p1 .0)) in
+    let rc = range-is mostCapacity c (not-false _ (p2 .0)) in
     record {
       sized = record { some = rn .0; few = rn .1; roomy = rc .0; small = rc .1 };
       distinct = unrepeated-distinct ids (ltb-false (firstRepeat ids) n (p4 .0));
