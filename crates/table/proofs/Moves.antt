@@ -10,11 +10,11 @@ use Rattle.gateway.specs.declared.State.{State}
 use Rattle.gateway.specs.declared.Proc.{Proc}
 use Rattle.gateway.specs.declared.Msg.{Msg}
 use Rattle.gateway.specs.declared.Want as Asked
-use Rattle.gateway.specs.declared.Want.the-variants.{Takes}
+use Rattle.gateway.specs.declared.Want.the-variants.{Puts, Takes, Announces}
 use Rattle.gateway.specs.declared.Took.{Took}
 use Rattle.gateway.specs.declared.Took.the-variants.{Becomes, Wrong}
 use Rattle.gateway.specs.Row.{inState, row, took}
-use Rattle.gateway.proofs.Changes.{isLeading, Taking, took-changes}
+use Rattle.gateway.proofs.Changes.{isLeading, Taking, took-changes, puts-changes, announces-changes}
 use Rattle.gateway.proofs.SameIdentity.{Taken, took-same}
 use Rattle.rows.proofs.Tests.{ite-lt, ite-le}
 use Rattle.ring.specs.Ring.{Ring, puts, announces, prev, queueOf, becoming, putting, taking}
@@ -124,7 +124,7 @@ module _ (t : List ℕ) (n c : ℕ) (f : Formed t n c) where
 
     -- the row that announces --
 
-    pub announced-is : (p : Proc) (last : List ℕ) → p ≡ inState (p .state) (procAt (ringOf t) j) →
+    announced-is : (p : Proc) (last : List ℕ) → p ≡ inState (p .state) (procAt (ringOf t) j) →
         isLeading p ≡ true → last ≡ withRecord t c j (entered (recordAt t c j) (p .state)) →
         (codeAnnounced, last) ≡ coded t j (served t j (announces p))
     announced-is p last alone leads e =
@@ -226,6 +226,22 @@ module _ (t : List ℕ) (n c : ℕ) (f : Formed t n c) where
       let z : served t j (wanted p w) ≡ moveOf t j =
       rw (ew, ep) (sym (move-in gateways (countOf t) (capacityOf t) (ringOf t) j below)) in
       h ∙ ap (coded t j) z
+
+  module _ (j : ℕ) (below : j < countOf t) (p : Proc) (ep : p ≡ procAt (ringOf t) j) where
+    pub by-put : (m : Msg) (q : Proc) → Puts m q ≡ row p → (o : ℕ × List ℕ) →
+        o ≡ coded t j (served t j (puts m (inState (q .state) (procAt (ringOf t) j)))) → o ≡ coded t j (moveOf t j)
+    by-put m q e o h =
+        let went = puts-changes p m q (sym e) in
+        let same : inState (q .state) (procAt (ringOf t) j) ≡ q =
+        ap (inState (q .state)) (sym ep) ∙ sym (went .alone) in
+        by-row j below p ep (Puts m q) e o (h ∙ ap (λ (q : Proc). coded t j (served t j (puts m q))) same)
+
+    pub by-announcement : (q : Proc) → Announces q ≡ row p → (last : List ℕ) →
+        last ≡ withRecord t c j (entered (recordAt t c j) (q .state)) → (codeAnnounced, last) ≡ coded t j (moveOf t j)
+    by-announcement q e last h =
+        let went = announces-changes p q (sym e) in
+        by-row j below p ep (Announces q) e (codeAnnounced, last)
+        (announced-is j below q last (went .alone ∙ ap (inState (q .state)) ep) (went .leads) h)
 
   pub no-process : (j : ℕ) → n ≤ j → (6, t) ≡ coded t j (moveOf t j)
   no-process j h =

@@ -14,8 +14,10 @@ fn lay_record(rec: &mut [u32], x: u32)
     ensures { λ _. ⌜ ((c : ℕ) → length (now (rec .entry)) ≡ recordWidth c →
         now (rec .exit) ≡ recordWords c (starting x) []) ⌝ }
 {
-    for i in 0..rec.len() {
+    let mut i: usize = 0;
+    while i < rec.len() {
         rec[i] = 0;
+        i += 1;
     }
     rec[places::IDENT] = x;
     rec[places::D] = x;

@@ -1,10 +1,16 @@
 -- `table::choice::advance` is what comes of a choice, as a number and in words. Assumes nothing.
-use mathlib.Core.Path.{refl, sym, ap, _∙_}
-use Rattle.gateway.specs.Row.{inState}
-use Rattle.gateway.proofs.Changes.{puts-changes, announces-changes}
-use Rattle.ring.specs.Ring.{puts}
-use Rattle.table.specs.Inside.{coded, served}
-use Rattle.table.proofs.Moves.{within, read-is, announced-is, by-row, no-process, is-process, formed-count}
+use mathlib.Core.Path.{refl, sym, _∙_}
+use Rattle.gateway.proofs.Changes.{puts-changes}
+use Rattle.table.proofs.Moves.{
+  formed-count,
+  is-process,
+  within,
+  read-is,
+  by-row,
+  by-put,
+  by-announcement,
+  no-process,
+}
 use borrow.Author.Needs.{needs}
 use Rattle.table.proofs.choice.advance.Statement.{statement}
 use Rattle.table.proofs.choice.advance.Tie as tie
@@ -69,11 +75,8 @@ returns-2 c =
     let p = r .ensures ∙ read-is t (a .n) (a .c) (s .pre) (a .j) low in
     let w = c7 .wants in
     let m = c5 .m .given in
-    let went = puts-changes (r .result) _ _ (sym (w .ensures) ∙ m .1) in
-    by-row t (a .n) (a .c) (s .pre) (a .j) low (r .result) p _ (sym (m .1) ∙ w .ensures) _
-    (c .before .before .put-move .ensures
-    ∙ ap (λ q. coded t (a .j) (served t (a .j) (puts (m .0 .0) q)))
-    (ap (inState (m .0 .1 .0 .state)) (sym p) ∙ sym (went .alone)))
+    by-put t (a .n) (a .c) (s .pre) (a .j) low (r .result) p (m .0 .0) (m .0 .1 .0) (sym (m .1) ∙ w .ensures) _
+    (c .before .before .put-move .ensures)
 
 returns-3 : tie.Need-returns-3
 returns-3 c =
@@ -106,11 +109,9 @@ returns-4 c =
     let p = r .ensures ∙ read-is t (a .n) (a .c) (s .pre) (a .j) low in
     let w = c7 .wants in
     let q = c5 .q .given in
-    let went = announces-changes (r .result) _ (sym (w .ensures) ∙ q .1) in
     let g = c .before .before .set-state-at in
-    by-row t (a .n) (a .c) (s .pre) (a .j) low (r .result) p _ (sym (q .1) ∙ w .ensures) _
-    (announced-is t (a .n) (a .c) (s .pre) (a .j) low (q .0 .0) (g .last .0)
-    (went .alone ∙ ap (inState (q .0 .0 .state)) p) (went .leads) (g .ensures))
+    by-announcement t (a .n) (a .c) (s .pre) (a .j) low (r .result) p (q .0 .0) (sym (q .1) ∙ w .ensures) (g .last .0)
+    (g .ensures)
 
 returns-5 : tie.Need-returns-5
 returns-5 c =

@@ -12,11 +12,11 @@ use Rattle.table.proofs.starting.lay_record.Tie as tie
 
 -- the first i words are zeros, the others as they came
 abbrev Inv-loop : tie.InvT-loop
-Inv-loop rec₀ x i₀ i-end rec i =
+Inv-loop rec₀ x i₀ rec i =
     (i ≤ length rec₀) × (rec ≡ replicate i 0 ++ drop i rec₀) × (length rec ≡ length rec₀)
 
 abbrev μ-loop : tie.MeasureT-loop
-μ-loop rec₀ x i₀ i-end rec i = length rec₀ - i
+μ-loop rec₀ x i₀ rec i = length rec₀ - i
 
 loop-again : tie.Need-loop-again Inv-loop μ-loop
 loop-again c =
