@@ -1,20 +1,16 @@
 -- A record of w words at a, lent and back. Assumes nothing.
-use Prim.Native.Nat.{ℕ, _+_, _-_, _*_, _≤_}
+use Prim.Native.Nat.{ℕ, _+_, _-_, _≤_}
 use mathlib.Core.Path.{_≡_, sym, _∙_}
 use mathlib.Core.List.{List}
-use native.Mathlib.Nat.{mul-le-mul, add-sub-cancel-left}
+use native.Mathlib.Nat.{add-sub-cancel-left}
 use native.Mathlib.Omega.{arith}
 use borrow.Rule.Slice.PartMut.{midOf, putMid}
 use lib.ListN.{length, getD, drop, length-drop}
 use lib.Seq.{length-take-le, getD-take, getD-drop}
-use Rattle.words.specs.Layout.{mostProcesses, mostCapacity, lengthPlace, recordWidth, recordPlace}
+use Rattle.words.specs.Layout.{lengthPlace, recordWidth, recordPlace}
 use Rattle.words.specs.Table.{recordAt, lengthOf}
 use Rattle.words.proofs.Tables.{record-part}
 use Rattle.table.specs.Inside.{withRecord}
-
--- a record's place is small
-pub place-small : (c j : ℕ) → c ≤ mostCapacity → j ≤ mostProcesses → j * recordWidth c ≤ 608
-place-small c j hc hj = mul-le-mul {n₁ = j} {m₁ = recordWidth c} {n₂ = 16} {m₂ = 38} hj (omega arith)
 
 pub record-length : (t : List ℕ) (c j : ℕ) → recordPlace c j + recordWidth c ≤ length t →
     length (recordAt t c j) ≡ recordWidth c

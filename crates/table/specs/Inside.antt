@@ -66,6 +66,7 @@ putWords r m s =
 abbrev pub shifted : List ℕ → List ℕ
 shifted q = drop slotWidth q ++ (0 ∷ 0 ∷ [])
 
+-- the oldest message gone from the queue
 abbrev pub takenWords : List ℕ → List ℕ
 takenWords r = take recordHead (set r lengthPlace (lengthOf r - 1)) ++ shifted (drop recordHead r)
 
@@ -90,7 +91,7 @@ pub record Formed (t : List ℕ) (n c : ℕ) : Type 0 where
   pub count : n ≡ countOf t
   pub capacity : c ≡ capacityOf t
 
--- the number of state 6
+-- a state is state 6
 abbrev pub isLeads : State → Bool
 isLeads s = eqb (stateNumber s) (stateNumber Leads)
 

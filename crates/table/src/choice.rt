@@ -17,19 +17,19 @@ ghost use Rattle.ring.specs.Gateways.{wanted, procAt};
 ghost use Rattle.words.specs.Table.{countOf, ringOf};
 ghost use Rattle.table.specs.Inside.{Formed, isLeads, coded, served, moveOf, answerOf};
 
-// A move that announced nothing, and one that announced.
+// A move that announced nothing.
 pub(crate) const MOVED: u32 = 0;
-
+// A move that announced.
 pub(crate) const ANNOUNCED: u32 = 1;
-
+// No such process.
 const NO_PROCESS: u32 = 6;
-
+// The queue to take from is empty.
 const EMPTY: u32 = 7;
-
+// The queue to put to is full.
 const FULL: u32 = 8;
-
+// The oldest message is of the wrong kind.
 const WRONG_KIND: u32 = 9;
-
+// The process is in state 6.
 const OVER: u32 = 10;
 
 // The process from which j takes.

@@ -16,11 +16,11 @@ mod lent;
 mod record;
 mod starting;
 
-// How a run ends: no byte is left, some process is in state 6, taken equals the budget.
+// A run's end number where no byte is left.
 pub const END_USED_UP: u32 = 0;
-
+// Where some process is in state 6.
 pub const END_OVER: u32 = 1;
-
+// Where taken equals the budget.
 pub const END_SPENT: u32 = 2;
 
 // Lays the table of a ring of these identities, their number being n, at capacity c: refused 1 where n is out of range,

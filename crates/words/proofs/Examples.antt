@@ -120,6 +120,18 @@ ring59 = record {
   leads-refused = refl;
 }
 
+abbrev start7 : List ℕ
+start7 = 1 ∷ 1 ∷ 7 ∷ 0 ∷ 7 ∷ 0 ∷ 0 ∷ 0 ∷ 0 ∷ 0 ∷ []
+
+-- a budget spent with a byte left, and then an empty schedule: by themselves end 2 and end 0, together end 2
+pub record Spent : Type 0 where
+  pub first : runOf start7 (0 ∷ 0 ∷ []) 1 .0 ≡ Ended 2 1 0
+  pub then-nothing : runOf (runOf start7 (0 ∷ 0 ∷ []) 1 .1) [] 0 .0 ≡ Ended 0 0 0
+
+pub spent-then-nothing : Spent
+unfolding runOf wellFormed ringOf tableWords recordWords runFrom hasLeader move decLt ℕ-discrete
+spent-then-nothing = record { first = refl; then-nothing = refl }
+
 -- processes 1 and 2 in state 6, with d 3 and 4: the lower leads, with its d and neither its e nor its identity
 abbrev both : List ℕ
 both =

@@ -1,6 +1,6 @@
 -- `table::lent::place` is where a record begins. Assumes nothing.
 use native.Mathlib.Omega.{arith}
-use Rattle.table.proofs.Lending.{place-small}
+use Rattle.shape.proofs.Sizes.{records-small}
 use borrow.Author.Needs.{needs}
 use Rattle.table.proofs.lent.place.Statement.{statement}
 use Rattle.table.proofs.lent.place.Tie as tie
@@ -8,14 +8,14 @@ use Rattle.table.proofs.lent.place.Tie as tie
 mul-result : tie.Need-mul-result
 mul-result c =
     let s = c .before in
-    let small = place-small (s .args .c) (s .args .j) (s .pre .0) (s .pre .1) in
-    rw (c .width .ensures) (omega (arith, small))
+    let w = c .width in
+    omega (arith, records-small (s .args .j) (w .result) (s .args .c) (s .pre .1) (s .pre .0) (w .ensures))
 
 add-result : tie.Need-add-result
 add-result c =
     let s = c .before in
-    let small = place-small (s .args .c) (s .args .j) (s .pre .0) (s .pre .1) in
-    rw (c .width .ensures) (omega (arith, small))
+    let w = c .width in
+    omega (arith, records-small (s .args .j) (w .result) (s .args .c) (s .pre .1) (s .pre .0) (w .ensures))
 
 returns : tie.Need-returns
 returns c = rw (c .width .ensures)
