@@ -6,6 +6,8 @@ use mathlib.Core.List.{List, [], _∷_, _++_}
 use native.Mathlib.Omega.{arith}
 use lib.ListN.{length, getD, set, length-set}
 use lib.Seq.{getD-set-same}
+use Rattle.refusal.specs.declared.Refusal.the-variants.{NoProcess, Empty, Full, WrongKind}
+use Rattle.refusal.specs.Numbered.{numbered}
 use Rattle.gateway.specs.declared.State.{State}
 use Rattle.gateway.specs.declared.Proc.{Proc}
 use Rattle.gateway.specs.declared.Msg.{Msg}
@@ -151,7 +153,8 @@ module _ (t : List ℕ) (n c : ℕ) (f : Formed t n c) where
           e ∙ put-is t n c R (restOf t) laid j (below-n j below) m s room-c in
           rw (ite-lt room-t _ _, there p, quiet, rewrites (putting R j m p) last words)
 
-      pub put-full : c ≤ lengthOf (recordAt t c j) → (8, t) ≡ coded t j (served t j (puts m p))
+      pub put-full : c ≤ lengthOf (recordAt t c j) →
+          (numbered (Full j) .number, t) ≡ coded t j (served t j (puts m p))
       put-full full =
           let full-c : c ≤ length (queueOf (ringOf t) j) = rw length-is at full in
           let full-t : capacityOf t ≤ length (queueOf (ringOf t) j) = rw (f .capacity) at full-c in
@@ -166,7 +169,8 @@ module _ (t : List ℕ) (n c : ℕ) (f : Formed t n c) where
     pub i-below : i < countOf t
     i-below = rw ei-t (prev-below (countOf t) j below)
 
-    pub take-empty : lengthOf (recordAt t c i) ≡ 0 → (7, t) ≡ coded t j (served t j (wanted p Takes))
+    pub take-empty : lengthOf (recordAt t c i) ≡ 0 →
+        (numbered (Empty j) .number, t) ≡ coded t j (served t j (wanted p Takes))
     take-empty e =
         let none : queueOf (ringOf t) i ≡ [] = go (queueOf (ringOf t) i) (sym (length-is i i-below) ∙ e) in
         rw (← ei-t, none)
@@ -180,7 +184,7 @@ module _ (t : List ℕ) (n c : ℕ) (f : Formed t n c) where
       front : (q : List Msg) × (queueOf (ringOf t) i ≡ m ∷ q)
       front = oldest-is i i-below (λ z. some (el ∙ z)) m em
 
-      pub take-wrong : x ≡ Wrong → (9, t) ≡ coded t j (served t j (wanted p Takes))
+      pub take-wrong : x ≡ Wrong → (numbered (WrongKind j) .number, t) ≡ coded t j (served t j (wanted p Takes))
       take-wrong e = let w : took p m ≡ Wrong = sym ex ∙ e in rw (← ei-t, front .1, w)
 
       -- it takes: it becomes p′, and then the message leaves the queue
@@ -243,7 +247,7 @@ module _ (t : List ℕ) (n c : ℕ) (f : Formed t n c) where
         by-row j below p ep (Announces q) e (codeAnnounced, last)
         (announced-is j below q last (went .alone ∙ ap (inState (q .state)) ep) (went .leads) h)
 
-  pub no-process : (j : ℕ) → n ≤ j → (6, t) ≡ coded t j (moveOf t j)
+  pub no-process : (j : ℕ) → n ≤ j → (numbered (NoProcess n) .number, t) ≡ coded t j (moveOf t j)
   no-process j h =
       let past : countOf t ≤ j = rw (f .count) at h in
       rw (move-out gateways (countOf t) (capacityOf t) (ringOf t) j past)

@@ -30,6 +30,11 @@ pub record Starts : Type 0 where
   pub large-capacity : startTold [] (5 ∷ 5 ∷ []) 17 ≡ tell 2 0
   pub short : startTold (replicate 17 3) (5 ∷ 5 ∷ []) 1 ≡ tell 3 0
   pub repeated : startTold (replicate 18 3) (5 ∷ 5 ∷ []) 1 ≡ tell 4 1
+  -- each of them leaves every word
+  pub one-leaves : startOf (3 ∷ []) [] 1 .1 ≡ 3 ∷ []
+  pub two-leaves : startOf (3 ∷ []) (5 ∷ []) 0 .1 ≡ 3 ∷ []
+  pub three-leaves : startOf (3 ∷ []) (5 ∷ []) 1 .1 ≡ 3 ∷ []
+  pub four-leaves : startOf (replicate 18 3) (5 ∷ 5 ∷ []) 1 .1 ≡ replicate 18 3
   -- every slot word is written, and no word beyond the table
   pub cleared : startOf (replicate 13 3) (5 ∷ []) 2 .1
       ≡ 1 ∷ 2 ∷ 5 ∷ 0 ∷ 5 ∷ 0 ∷ 0 ∷ 0 ∷ 0 ∷ 0 ∷ 0 ∷ 0 ∷ 3 ∷ []
@@ -43,6 +48,10 @@ starts = record {
   large-capacity = refl;
   short = refl;
   repeated = refl;
+  one-leaves = refl;
+  two-leaves = refl;
+  three-leaves = refl;
+  four-leaves = refl;
   cleared = refl;
 }
 
