@@ -4,19 +4,20 @@ use mathlib.Core.Path.{_≡_}
 use mathlib.Core.Bool.{true, false}
 use native.Mathlib.Nat.{mul-le-mul-right}
 use native.Mathlib.Omega.{arith}
-use borrow.Author.Tests.{le-leb, lt-leb}
 use Rattle.words.specs.Layout.{mostProcesses, mostCapacity, recordWidth}
 use Rattle.words.specs.WellFormed.{inRange}
+use Rattle.words.proofs.Ranges.{range-in, range-out}
 
+-- the tests that the code makes of a limit
 module _ (most n : ℕ) where
   pub none-out : n ≡ 0 → inRange most n ≡ false
-  none-out h = rw (lt-leb 1 n (omega arith))
+  none-out h = range-out most n (λ w. omega (arith, w .0))
 
   pub over-out : most < n → inRange most n ≡ false
-  over-out h = rw (le-leb 1 n (omega arith), lt-leb n most h)
+  over-out h = range-out most n (λ w. omega (arith, w .1))
 
   pub in-range : (n ≡ 0 → ⊥) → n ≤ most → inRange most n ≡ true
-  in-range some h = rw (le-leb 1 n (omega (arith, some)), le-leb n most h)
+  in-range some h = range-in most n (omega (arith, some), h)
 
 -- n records of w words are not many
 pub records-small : (n w c : ℕ) → n ≤ mostProcesses → c ≤ mostCapacity → w ≡ recordWidth c →

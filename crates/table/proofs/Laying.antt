@@ -7,11 +7,11 @@ use mathlib.Core.List.{List, [], _∷_, _++_, append-nil, append-assoc}
 use native.Mathlib.Nat.{suc-mul, zero-mul, add-sub-cancel-left}
 use native.Mathlib.Numerals.{add-one}
 use native.Mathlib.Omega.{arith}
-use borrow.Author.Tests.{lt-ltb, le-ltb, leb-true}
+use borrow.Author.Tests.{lt-ltb, le-ltb}
 use borrow.Rule.Slice.PartMut.{putMid}
 use lib.ListN.{length, getD, set, drop, replicate, List·getD-map}
 use lib.Seq.{drop-length, take-at, drop-at, drop-drop, drop-set-lt}
-use lib.Dec.{ltb, leb}
+use lib.Dec.{ltb}
 use Rattle.refusal.specs.declared.Refusal.{Refusal}
 use Rattle.refusal.specs.declared.Refusal.the-variants.{Count, Capacity, Short, Repeated}
 use Rattle.refusal.specs.declared.Answer.{Answer}
@@ -20,7 +20,7 @@ use Rattle.gateway.specs.declared.Msg.{Msg}
 use Rattle.ring.specs.Ring.{queueOf}
 use Rattle.ring.specs.Identities.{firstRepeat}
 use Rattle.ring.specs.Gateways.{starting, procAt, started}
-use Rattle.ring.proofs.Tests.{and-left, and-right}
+use Rattle.ring.proofs.Tests.{and-left}
 use Rattle.words.specs.declared.Size.{Size}
 use Rattle.words.specs.declared.Size.the-variants as Size
 use Rattle.words.specs.Layout.{mostProcesses, mostCapacity, recordWidth, recordPlace, tableLength}
@@ -30,6 +30,7 @@ use Rattle.words.specs.Outcomes.{sizeOf, startOf}
 use Rattle.words.proofs.Blocks.{length-blocks, blocks-same}
 use Rattle.words.proofs.Records.{length-record}
 use Rattle.words.proofs.Tables.{past-head}
+use Rattle.words.proofs.Ranges.{range-is}
 use Rattle.words.proofs.Sizes.{words-in}
 
 -- one record --
@@ -133,7 +134,7 @@ pub size-fits : (n c w : ℕ) → sizeOf n c ≡ Size.Words w → (n ≤ mostPro
 size-fits n c w e =
     let given = words-in n c w (sym e) in
     let few = and-left (inRange mostProcesses n) (inRange mostCapacity c) (given .1) in
-    (leb-true n mostProcesses (and-right (leb 1 n) (leb n mostProcesses) few), given .0)
+    (range-is mostProcesses n few .1, given .0)
 
 module _ (t ids : List ℕ) (c : ℕ) where
   -- a start, by what its size is
