@@ -1,10 +1,12 @@
--- Runs over any ring: what every move keeps a run keeps, and taken never exceeds the budget. Assumes nothing.
-use Prim.Native.Nat.{ℕ, _+_, _≤_}
+-- Runs over any ring: what every move keeps a run keeps, taken never exceeds the budget, and no choice counts twice.
+-- Assumes nothing.
+use Prim.Native.Nat.{ℕ, suc, _+_, _≤_}
 use mathlib.Core.Path.{_≡_, refl}
 use mathlib.Core.Bool.{Bool, true, false, cond}
 use mathlib.Core.List.{List, [], _∷_}
 use native.Mathlib.Omega.{arith}
 use borrow.Author.Tests.{eqb-false, eq-eqb, ne-eqb}
+use lib.ListN.{length}
 use lib.Dec.{eqb}
 use Rattle.ring.specs.Ring.{Ring, Out, refused, made, Rules, move, ringAfter, takenBy, skippedBy}
 use Rattle.ring.specs.Runs.{Run, ends, endUsedUp, endOver, endSpent, runFrom}
@@ -50,6 +52,23 @@ module _ {P M : Type 0} (G : Rules P M) (n c : ℕ) (isOver : Ring P M → Bool)
           cond e (ends R endSpent t s) later .taken ≤ b
       go later true q l = h
       go later false q l = l (eqb-false t b q)
+
+  one-choice : (o : Out P M) → takenBy o + skippedBy o ≡ 1
+  one-choice (refused x) = refl
+  one-choice (made R′) = refl
+
+  -- a choice is taken or skipped at most once
+  pub counts-within : (js : List ℕ) (R : Ring P M) (b t s : ℕ) →
+      runFrom G n c isOver js R b t s .taken + runFrom G n c isOver js R b t s .skipped ≤ t + s + length js
+  unfolding runFrom
+  counts-within [] R b t s =
+      either (λ (r : Run P M). r .taken + r .skipped ≤ t + s + 0) (isOver R) _ _ (omega arith) (omega arith)
+  counts-within (j ∷ js) R b t s =
+      let o = move G n c R j in
+      let Within : Run P M → Type 0 = λ r. r .taken + r .skipped ≤ t + s + suc (length js) in
+      let later = counts-within js (ringAfter R o) b (t + takenBy o) (s + skippedBy o) in
+      either Within (isOver R) (ends R endOver t s) _ (omega arith)
+      (either Within (eqb t b) (ends R endSpent t s) _ (omega arith) (omega (arith, later, one-choice o)))
 
   -- a run, choice by choice --
 

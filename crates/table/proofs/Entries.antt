@@ -26,7 +26,7 @@ use Rattle.words.proofs.Starts.{start-formed, start-ring}
 use Rattle.words.proofs.Kept.{step-formed, run-formed}
 use Rattle.words.proofs.Beside.{Beside, move-ring, move-beside}
 use Rattle.words.proofs.StepByStep.{stepwise, run-by-steps}
-use Rattle.words.proofs.Ended.{step-done, run-within}
+use Rattle.words.proofs.Ended.{step-done, run-within, run-counts}
 use Rattle.words.proofs.Joining.{run-then-run}
 use Rattle.words.proofs.GivenWhen.{
   Starts,
@@ -108,6 +108,11 @@ ran-by-steps t schedule budget a t′ ok h = h ∙ run-by-steps t schedule budge
 pub ran-within : (t schedule : List ℕ) (budget e k s : ℕ) (t′ : List ℕ) →
     (Ran.Ended e k s, t′) ≡ runOf t schedule budget → k ≤ budget
 ran-within t schedule budget e k s t′ h = run-within t schedule budget e k s t′ h
+
+-- no byte of the schedule counts twice
+pub ran-counts : (t schedule : List ℕ) (budget e k s : ℕ) (t′ : List ℕ) →
+    (Ran.Ended e k s, t′) ≡ runOf t schedule budget → k + s ≤ length schedule
+ran-counts t schedule budget e k s t′ h = run-counts t schedule budget e k s t′ h
 
 -- a run and then another, with what is left of the budget, is a run of both schedules
 pub ran-then-ran : (t xs ys : List ℕ) (budget e k s : ℕ) (t₁ : List ℕ) (e′ k′ s′ : ℕ) (t₂ : List ℕ) →

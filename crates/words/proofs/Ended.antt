@@ -1,9 +1,10 @@
 -- What a step that is done, and a run that ended, tell. Assumes nothing.
-use Prim.Native.Nat.{ℕ, _≤_}
+use Prim.Native.Nat.{ℕ, _+_, _≤_}
 use mathlib.Core.Path.{_≡_, refl, sym, ap, _∙_}
 use mathlib.Core.Bool.{Bool, true, false, cond}
 use mathlib.Core.List.{List}
 use native.Mathlib.Omega.{arith}
+use lib.ListN.{length}
 use Rattle.refusal.specs.declared.Refusal.the-variants.{Malformed}
 use Rattle.refusal.specs.declared.Answer.{Answer}
 use Rattle.refusal.specs.declared.Answer.the-variants.{Done, Refused}
@@ -12,7 +13,7 @@ use Rattle.gateway.specs.declared.Msg.{Msg}
 use Rattle.ring.specs.Ring.{Ring, Out, refused, made, move}
 use Rattle.ring.specs.Runs.{Run}
 use Rattle.ring.specs.Gateways.{gateways, hasLeader, running}
-use Rattle.ring.proofs.Running.{taken-within}
+use Rattle.ring.proofs.Running.{taken-within, counts-within}
 use Rattle.words.specs.declared.Ran.{Ran}
 use Rattle.words.specs.declared.Ran.the-variants as Ran
 use Rattle.words.specs.Table.{countOf, capacityOf, ringOf}
@@ -85,14 +86,23 @@ module _ (t : List ℕ) (e k s : ℕ) (t′ : List ℕ) (r : Run Proc Msg) (h : 
   pub ended-words : t′ ≡ rewritten t (r .ring)
   ended-words = ap (λ (p : Ran × List ℕ). p .1) h
 
--- taken never exceeds the budget
-pub run-within : (t schedule : List ℕ) (budget e k s : ℕ) (t′ : List ℕ) →
-    (Ran.Ended e k s, t′) ≡ runOf t schedule budget → k ≤ budget
-run-within t schedule budget e k s t′ h =
-    let n = countOf t in
-    let c = capacityOf t in
-    let r = running n c schedule (ringOf t) budget 0 0 in
-    let ok = ended-formed t schedule budget e k s t′ h in
-    let q : (Ran.Ended e k s, t′) ≡ ran t r = h ∙ run-is t schedule budget ok in
-    rw (ended-taken t e k s t′ r q)
-    (taken-within gateways n c (hasLeader n) schedule (ringOf t) budget 0 0 (omega arith))
+-- taken never exceeds the budget, and no byte counts twice
+module _ (t schedule : List ℕ) (budget e k s : ℕ) (t′ : List ℕ)
+    (h : (Ran.Ended e k s, t′) ≡ runOf t schedule budget) where
+  abbrev r : Run Proc Msg
+  r = running (countOf t) (capacityOf t) schedule (ringOf t) budget 0 0
+
+  ran-here : (Ran.Ended e k s, t′) ≡ ran t r
+  ran-here = h ∙ run-is t schedule budget (ended-formed t schedule budget e k s t′ h)
+
+  pub run-within : k ≤ budget
+  run-within =
+      let n = countOf t in
+      rw (ended-taken t e k s t′ r ran-here)
+      (taken-within gateways n (capacityOf t) (hasLeader n) schedule (ringOf t) budget 0 0 (omega arith))
+
+  pub run-counts : k + s ≤ length schedule
+  run-counts =
+      let n = countOf t in
+      let counted = counts-within gateways n (capacityOf t) (hasLeader n) schedule (ringOf t) budget 0 0 in
+      rw (ended-taken t e k s t′ r ran-here, ended-skipped t e k s t′ r ran-here) (omega (arith, counted))
