@@ -7,8 +7,8 @@ use native.Mathlib.Nat.{not-suc-le-zero, le-of-suc-le-suc, eq-or-lt-of-le}
 use native.Mathlib.Numerals.{add-one}
 use native.Mathlib.Decide.{decLt, ℕ-discrete}
 use native.Mathlib.Omega.{arith}
-use borrow.Author.Tests.{lt-ltb, le-ltb, not-true, not-false}
-use lib.Dec.{ltb}
+use borrow.Author.Tests.{lt-ltb, le-ltb, eq-eqb, ne-eqb, not-true, not-false}
+use lib.Dec.{eqb, ltb}
 use Rattle.ring.specs.Scan.{allBelow, someBelow, firstBelow}
 use Rattle.ring.proofs.Tests.{and-left, and-right}
 
@@ -93,14 +93,18 @@ first-holds P (suc n) h = go (λ l. first-holds (λ i. P (suc i)) n l) (P 0) ref
     go later true e l = e
     go later false e l = later (le-of-suc-le-suc l)
 
+-- an index that passes is not before the first
+pub first-low : (P : ℕ → Bool) (n i : ℕ) → P i ≡ true → firstBelow n P ≤ i
+first-low P n i e = go (decLt i (firstBelow n P))
+  where
+    go : Dec (i < firstBelow n P) → firstBelow n P ≤ i
+    go (yes l) = absurd (true≢false (sym e ∙ first-before P n i l))
+    go (no l) = omega arith
+
 -- some index passes exactly where there is a first
 pub some-first : (P : ℕ → Bool) (n : ℕ) → someBelow n P ≡ ltb (firstBelow n P) n
 some-first P n = go (allBelow n (λ i. not (P i))) refl
   where
-    not-below : (i : ℕ) → P i ≡ true → Dec (i < firstBelow n P) → firstBelow n P ≤ i
-    not-below i e (yes l) = absurd (true≢false (sym e ∙ first-before P n i l))
-    not-below i e (no l) = omega arith
-
     go : (b : Bool) → allBelow n (λ i. not (P i)) ≡ b → not b ≡ ltb (firstBelow n P) n
     go true e =
         rw (
@@ -109,8 +113,17 @@ some-first P n = go (allBelow n (λ i. not (P i))) refl
         )
     go false e =
         let f = some-fails (λ i. not (P i)) n e in
-        let low = not-below (f .0) (not-false (P (f .0)) (f .2)) (decLt (f .0) (firstBelow n P)) in
-        sym (lt-ltb (firstBelow n P) n (omega (arith, f .1)))
+        sym (lt-ltb (firstBelow n P) n (omega (arith, f .1, first-low P n (f .0) (not-false (P (f .0)) (f .2)))))
+
+-- all pass exactly where there is no first that fails
+pub all-first : (P : ℕ → Bool) (n : ℕ) → eqb (firstBelow n (λ i. not (P i))) n ≡ allBelow n P
+all-first P n = go (allBelow n P) refl
+  where
+    go : (b : Bool) → allBelow n P ≡ b → eqb (firstBelow n (λ i. not (P i))) n ≡ b
+    go true e = eq-eqb _ n (first-none (λ i. not (P i)) n (λ k l. ap not (all-at P n k l e)))
+    go false e =
+        let f = some-fails P n e in
+        ne-eqb _ n (λ z. omega (arith, f .1, first-low (λ i. not (P i)) n (f .0) (ap not (f .2))))
 
 -- where every other index fails, some index passes exactly if j does
 pub some-but : (P : ℕ → Bool) (n j : ℕ) → j < n → ((k : ℕ) → k < n → (k ≡ j → ⊥) → P k ≡ false) → someBelow n P ≡ P j

@@ -1,4 +1,5 @@
 // The conditions of well-formed identities and records.
+use crate::identities;
 use crate::places;
 use rows::numbers;
 ghost use mathlib.Core.Path.{_≡_};
@@ -6,29 +7,9 @@ ghost use mathlib.Core.Bool.{true};
 ghost use Prim.Native.Nat.{_+_, _*_, _≤_};
 ghost use lib.ListN.{length};
 ghost use Rattle.ring.specs.Scan.{allBelow};
-ghost use Rattle.ring.specs.Identities.{isFresh};
-ghost use Rattle.words.specs.Layout.{slotWidth, recordWidth, recordPlace, tableLength};
+ghost use Rattle.words.specs.Layout.{slotWidth, recordWidth, tableLength};
 ghost use Rattle.words.specs.Table.{countOf, capacityOf};
-ghost use Rattle.words.specs.WellFormed.{identAt, identsOk, slotOk, recordOk, recordsOk};
-
-// Whether the identity of process i, whose record of w words is at a, equals none before it.
-fn fresh(table: &[u32], w: usize, i: u32, a: usize) -> bool
-    requires { ⌜ (w ≡ recordWidth (capacityOf (now table))) × (a ≡ recordPlace (capacityOf (now table)) i) ×
-        (recordPlace (capacityOf (now table)) i + w ≤ length (now table)) ⌝ }
-    ensures { λ r. ⌜ r ≡ isFresh (identAt (now (table .entry))) i ⌝ }
-{
-    let x = table[a + places::IDENT];
-    let mut b = places::TABLE_HEAD;
-    let mut k: u32 = 0;
-    while k < i {
-        if table[b + places::IDENT] == x {
-            return false;
-        }
-        b += w;
-        k += 1;
-    }
-    true
-}
+ghost use Rattle.words.specs.WellFormed.{identsOk, slotOk, recordOk, recordsOk};
 
 // Whether the n identities are pairwise different.
 pub(crate) fn idents_ok(table: &[u32], w: usize, n: u32) -> bool
@@ -36,16 +17,8 @@ pub(crate) fn idents_ok(table: &[u32], w: usize, n: u32) -> bool
         (tableLength n (capacityOf (now table)) ≤ length (now table)) ⌝ }
     ensures { λ r. ⌜ r ≡ identsOk (now (table .entry)) ⌝ }
 {
-    let mut a = places::TABLE_HEAD;
-    let mut i: u32 = 0;
-    while i < n {
-        if !fresh(table, w, i, a) {
-            return false;
-        }
-        a += w;
-        i += 1;
-    }
-    true
+    let m = n as usize;
+    identities::first_of(table, places::TABLE_HEAD + places::IDENT, w, m) == m
 }
 
 // Whether the kinds of the filled slots are 0 or 1.

@@ -1,14 +1,26 @@
--- What a step and asking who leads answer, once the table was tested. Assumes nothing.
+-- What a start, a step and asking who leads answer, by what was tested. Assumes nothing.
 use Prim.Native.Nat.{ℕ, _<_, _≤_}
-use mathlib.Core.Path.{_≡_, refl, ap}
-use mathlib.Core.Bool.{Bool, true, false, cond}
-use mathlib.Core.List.{List}
+use mathlib.Core.Path.{_≡_, refl, sym, ap}
+use mathlib.Core.Bool.{Bool, true, false, not, cond}
+use mathlib.Core.List.{List, _++_}
 use native.Mathlib.Decide.{decLt}
 use native.Mathlib.Omega.{arith}
 use borrow.Author.Tests.{lt-ltb, le-ltb}
-use lib.ListN.{length}
+use lib.ListN.{length, drop}
+use lib.Dec.{ltb}
 use Rattle.refusal.specs.declared.Refusal.{Refusal}
-use Rattle.refusal.specs.declared.Refusal.the-variants.{Malformed, NoProcess, Empty, Full, WrongKind, Over}
+use Rattle.refusal.specs.declared.Refusal.the-variants.{
+  Count,
+  Capacity,
+  Short,
+  Repeated,
+  Malformed,
+  NoProcess,
+  Empty,
+  Full,
+  WrongKind,
+  Over,
+}
 use Rattle.refusal.specs.declared.Answer.{Answer}
 use Rattle.refusal.specs.declared.Answer.the-variants.{Done, Refused}
 use Rattle.refusal.specs.Numbered.{numbered}
@@ -16,14 +28,20 @@ use Rattle.gateway.specs.declared.State.the-variants.{Leads}
 use Rattle.gateway.specs.declared.Proc.{Proc}
 use Rattle.gateway.specs.declared.Msg.{Msg}
 use Rattle.ring.specs.Ring.{Ring, refused, made}
-use Rattle.ring.specs.Gateways.{gateways, procAt, isIn, leaderOf}
+use Rattle.ring.specs.Identities.{firstRepeat}
+use Rattle.ring.specs.Gateways.{gateways, procAt, started, isIn, leaderOf}
+use Rattle.ring.proofs.Tests.{and-left}
 use Rattle.ring.proofs.Moves.{Case, c-made, c-full, c-empty, c-wrong, c-over, case-of, move-out}
+use Rattle.words.specs.declared.Size.{Size}
+use Rattle.words.specs.declared.Size.the-variants as Size
 use Rattle.words.specs.declared.Leading.{Leading}
 use Rattle.words.specs.declared.Leading.the-variants as Leading
-use Rattle.words.specs.Layout.{tableHead}
-use Rattle.words.specs.Table.{countOf, capacityOf, ringOf}
-use Rattle.words.specs.WellFormed.{wellFormed}
-use Rattle.words.specs.Outcomes.{rewritten, stepped, stepOf, leadsOf}
+use Rattle.words.specs.Layout.{mostProcesses, mostCapacity, tableHead, tableLength}
+use Rattle.words.specs.Table.{tableWords, countOf, capacityOf, ringOf}
+use Rattle.words.specs.WellFormed.{inRange, wellFormed}
+use Rattle.words.specs.Outcomes.{sizeOf, startOf, rewritten, stepped, stepOf, leadsOf}
+use Rattle.words.proofs.Ranges.{range-is}
+use Rattle.words.proofs.Sizes.{sizeBy, words-in}
 use Rattle.words.proofs.Sound.{formed-sound}
 use Rattle.table.specs.Inside.{Formed, codeMoved, codeAnnounced, coded, moveOf, answerOf}
 
@@ -34,6 +52,51 @@ module _ (t : List ℕ) (ok : wellFormed t ≡ true) where
 
   pub formed-here : Formed t (countOf t) (capacityOf t)
   formed-here = record { formed = ok; count = refl; capacity = refl }
+
+-- a start --
+
+-- a table that has a size is within its limits
+pub size-fits : (n c w : ℕ) → sizeOf n c ≡ Size.Words w → (n ≤ mostProcesses) × (w ≡ tableLength n c)
+size-fits n c w e =
+    let given = words-in n c w (sym e) in
+    let few = and-left (inRange mostProcesses n) (inRange mostCapacity c) (given .1) in
+    (range-is mostProcesses n few .1, given .0)
+
+module _ (t ids : List ℕ) (c : ℕ) where
+  -- a start, by what its size is
+  abbrev sized : Size → Answer × List ℕ
+  sized (Size.Refused x) = (Refused x, t)
+  sized (Size.Words w) =
+      cond (ltb (length t) w) (Refused Short, t)
+      (cond (ltb (firstRepeat ids) (length ids)) (Refused (Repeated (firstRepeat ids)), t)
+      (Done, tableWords (length ids) c (started ids) ++ drop (tableLength (length ids) c) t))
+
+  start-sized : startOf t ids c ≡ sized (sizeOf (length ids) c)
+  unfolding startOf
+  start-sized = go (tableLength (length ids) c) (inRange mostProcesses (length ids)) (inRange mostCapacity c)
+    where
+      go : (w : ℕ) (a b : Bool) →
+          cond (not a) (Refused Count, t) (cond (not b) (Refused Capacity, t) (sized (Size.Words w)))
+          ≡ sized (sizeBy w a b)
+      go w true true = refl
+      go w true false = refl
+      go w false b = refl
+
+  pub start-unsized : (x : Refusal) → sizeOf (length ids) c ≡ Size.Refused x → (Refused x, t) ≡ startOf t ids c
+  start-unsized x e = rw (start-sized, e)
+
+  module _ (w : ℕ) (e : sizeOf (length ids) c ≡ Size.Words w) where
+    pub start-short : length t < w → (Refused Short, t) ≡ startOf t ids c
+    start-short h = rw (start-sized, e, lt-ltb (length t) w h)
+
+    module _ (long : w ≤ length t) (i : ℕ) (at : i ≡ firstRepeat ids) where
+      pub start-repeats : i < length ids → (Refused (Repeated i), t) ≡ startOf t ids c
+      start-repeats h = rw (start-sized, e, le-ltb (length t) w long, ← at, lt-ltb i (length ids) h)
+
+      pub start-done : length ids ≤ i → (t′ : List ℕ) →
+          t′ ≡ tableWords (length ids) c (started ids) ++ drop (tableLength (length ids) c) t →
+          (Done, t′) ≡ startOf t ids c
+      start-done h t′ q = rw (start-sized, e, le-ltb (length t) w long, ← at, le-ltb i (length ids) h, q)
 
 -- a step --
 

@@ -114,7 +114,8 @@ pub ran-counts : (t schedule : List ℕ) (budget e k s : ℕ) (t′ : List ℕ) 
     (Ran.Ended e k s, t′) ≡ runOf t schedule budget → k + s ≤ length schedule
 ran-counts t schedule budget e k s t′ h = run-counts t schedule budget e k s t′ h
 
--- a run and then another, with what is left of the budget, is a run of both schedules
+-- a run and then another, with what is left of the budget, is a run of both schedules; it ends as the second does,
+-- unless the first had spent its budget
 pub ran-then-ran : (t xs ys : List ℕ) (budget e k s : ℕ) (t₁ : List ℕ) (e′ k′ s′ : ℕ) (t₂ : List ℕ) →
     (Ran.Ended e k s, t₁) ≡ runOf t xs budget →
     (Ran.Ended e′ k′ s′, t₂) ≡ runOf t₁ ys (budget - k) →

@@ -1,20 +1,16 @@
 -- A record of w words at a, lent and back. Assumes nothing.
-use Prim.Native.Nat.{ℕ, _+_, _-_, _≤_}
+use Prim.Native.Nat.{ℕ, _+_, _-_}
 use mathlib.Core.Path.{_≡_, sym, _∙_}
 use mathlib.Core.List.{List}
 use native.Mathlib.Nat.{add-sub-cancel-left}
 use native.Mathlib.Omega.{arith}
 use borrow.Rule.Slice.PartMut.{midOf, putMid}
-use lib.ListN.{length, getD, drop, length-drop}
-use lib.Seq.{length-take-le, getD-take, getD-drop}
+use lib.ListN.{getD, drop}
+use lib.Seq.{getD-take, getD-drop}
 use Rattle.words.specs.Layout.{lengthPlace, recordWidth, recordPlace}
 use Rattle.words.specs.Table.{recordAt, lengthOf}
 use Rattle.words.proofs.Tables.{record-part}
 use Rattle.table.specs.Inside.{withRecord}
-
-pub record-length : (t : List ℕ) (c j : ℕ) → recordPlace c j + recordWidth c ≤ length t →
-    length (recordAt t c j) ≡ recordWidth c
-record-length t c j h = length-take-le (recordWidth c) (drop (recordPlace c j) t) (simp length-drop (omega arith))
 
 module _ (t : List ℕ) (c j a : ℕ) (at : a ≡ recordPlace c j) where
   pub lend-length : getD t (a + lengthPlace) 0 ≡ lengthOf (recordAt t c j)

@@ -17,19 +17,21 @@ use lib.Seq.{
   getD-append-add,
   getD-drop,
 }
+use Rattle.words.specs.Layout.{valuePlace, kindPlace, slotWidth}
+use Rattle.table.specs.Inside.{shifted}
 
--- after i turns: the words from place 2 on, and behind them what the turns have not reached
+-- after i turns: the words from the second slot on, and behind them what the turns have not reached
 module _ (q : List ℕ) (i : ℕ) where
   abbrev moved : List ℕ
-  moved = take i (drop 2 q)
+  moved = take i (drop slotWidth q)
 
-  moved-length : i + 2 ≤ length q → length moved ≡ i
+  moved-length : i + slotWidth ≤ length q → length moved ≡ i
   moved-length h = length-take-le i (drop 2 q) (simp length-drop (omega arith))
 
   -- one turn more
-  pub shift-turn : i + 2 < length q →
-      set (take i (drop 2 q) ++ drop i q) i (getD (take i (drop 2 q) ++ drop i q) (i + 2) 0)
-      ≡ take (i + 1) (drop 2 q) ++ drop (i + 1) q
+  pub shift-turn : i + slotWidth < length q →
+      set (moved ++ drop i q) i (getD (moved ++ drop i q) (i + slotWidth) 0)
+      ≡ take (i + 1) (drop slotWidth q) ++ drop (i + 1) q
   shift-turn h =
       let l = moved-length (omega arith) in
       let room : i < length (drop 2 q) = simp length-drop (omega arith) in
@@ -46,8 +48,8 @@ module _ (q : List ℕ) (i : ℕ) where
       (sym (append-snoc moved (getD (drop 2 q) i 0) (drop (suc i) q)))
 
   -- when every word has moved, the last two become zeros
-  pub shift-end : i + 2 ≡ length q →
-      set (set (take i (drop 2 q) ++ drop i q) (i + 0) 0) (i + 1) 0 ≡ drop 2 q ++ (0 ∷ 0 ∷ [])
+  pub shift-end : i + slotWidth ≡ length q →
+      set (set (moved ++ drop i q) (i + valuePlace) 0) (i + kindPlace) 0 ≡ shifted q
   shift-end h =
       let l = moved-length (omega arith) in
       let all : moved ≡ drop 2 q = take-all i (drop 2 q) (simp length-drop (omega arith)) in

@@ -3,7 +3,7 @@
 use Prim.Native.Nat.{ℕ, zero, suc, _+_, _*_, _<_, _≤_}
 use mathlib.Core.Path.{_≡_, refl, sym, ap, _∙_}
 use mathlib.Core.Logic.{_≢_}
-use mathlib.Core.List.{List, [], _∷_, _++_, append-assoc}
+use mathlib.Core.List.{List, [], _∷_, _++_, append-nil, append-assoc}
 use native.Mathlib.Nat.{zero-mul, suc-mul, add-comm, not-suc-le-zero, le-of-suc-le-suc}
 use native.Mathlib.Omega.{arith}
 use borrow.Rule.Slice.PartMut.{putMid}
@@ -45,6 +45,12 @@ pub blocks-same : (n : ℕ) (f g : ℕ → List ℕ) → ((j : ℕ) → j < n �
 blocks-same zero f g h = refl
 blocks-same (suc n) f g h =
     rw (h 0 (omega arith), blocks-same n (λ j. f (suc j)) (λ j. g (suc j)) (λ j i. h (suc j) (omega arith)))
+
+-- one block more behind
+pub blocks-more : (j : ℕ) (f : ℕ → List ℕ) → blocks (suc j) f ≡ blocks j f ++ f j
+blocks-more zero f = append-nil (f 0)
+blocks-more (suc j) f =
+    rw (blocks-more j (λ i. f (suc i))) (sym (append-assoc (f 0) (blocks j (λ i. f (suc i))) (f (suc j))))
 
 module _ (w : ℕ) where
   next : (j : ℕ) → suc j * w ≡ w + j * w

@@ -11,18 +11,19 @@ use Rattle.words.specs.Layout.{mostProcesses, mostCapacity, tableLength}
 use Rattle.words.specs.WellFormed.{inRange}
 use Rattle.words.specs.Outcomes.{sizeOf}
 
+-- the size of a table of w words, by the tests of its limits
+abbrev pub sizeBy : ℕ → Bool → Bool → Size
+sizeBy w a b = cond (not a) (Refused Count) (cond (not b) (Refused Capacity) (Words w))
+
 module _ (n c : ℕ) where
   abbrev bothIn : Bool
   bothIn = inRange mostProcesses n && inRange mostCapacity c
-
-  abbrev sized : Bool → Bool → Size
-  sized a b = cond (not a) (Refused Count) (cond (not b) (Refused Capacity) (Words (tableLength n c)))
 
   -- a size that is refused
   pub refused-out : (x : Refusal) → Refused x ≡ sizeOf n c → bothIn ≡ false
   refused-out x e = go (inRange mostProcesses n) (inRange mostCapacity c) e
     where
-      go : (a b : Bool) → Refused x ≡ sized a b → (a && b) ≡ false
+      go : (a b : Bool) → Refused x ≡ sizeBy (tableLength n c) a b → (a && b) ≡ false
       go true true e = let z : _≡_ {A = ℕ} 0 1 = cc in absurd (omega arith)
       go true false e = refl
       go false b e = refl
@@ -31,7 +32,7 @@ module _ (n c : ℕ) where
   pub words-in : (taken : ℕ) → Words taken ≡ sizeOf n c → (taken ≡ tableLength n c) × (bothIn ≡ true)
   words-in taken e = go (inRange mostProcesses n) (inRange mostCapacity c) e
     where
-      go : (a b : Bool) → Words taken ≡ sized a b → (taken ≡ tableLength n c) × ((a && b) ≡ true)
+      go : (a b : Bool) → Words taken ≡ sizeBy (tableLength n c) a b → (taken ≡ tableLength n c) × ((a && b) ≡ true)
       go true true e = (cc, refl)
       go true false e = let z : _≡_ {A = ℕ} 0 1 = cc in absurd (omega arith)
       go false b e = let z : _≡_ {A = ℕ} 0 1 = cc in absurd (omega arith)

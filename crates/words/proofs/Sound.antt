@@ -5,8 +5,8 @@ use mathlib.Core.Bool.{true, _&&_}
 use mathlib.Core.List.{List, [], _∷_}
 use native.Mathlib.Omega.{arith}
 use borrow.Author.Tests.{leb-true}
-use lib.ListN.{length, take, drop, length-drop}
-use lib.Seq.{getD-take, getD-drop, length-take-le}
+use lib.ListN.{length, take, drop}
+use lib.Seq.{getD-take, getD-drop}
 use lib.Dec.{leb}
 use Rattle.gateway.specs.declared.Proc.{Proc}
 use Rattle.gateway.specs.declared.Msg.{Msg}
@@ -33,7 +33,7 @@ use Rattle.words.specs.WellFormed.{inRange, longOk, sizesOk, identAt, id
 use Rattle.words.specs.Outcomes.{rewritten}
 use Rattle.words.proofs.Blocks.{length-firsts, firsts-at, blocks-same, blocks-cut}
 use Rattle.words.proofs.Records.{length-read, length-fits, record-image}
-use Rattle.words.proofs.Tables.{record-inside, past-head}
+use Rattle.words.proofs.Tables.{record-inside, record-length, past-head}
 
 -- the sizes that document 01 allows
 pub record Sized (n c : ℕ) : Type 0 where
@@ -126,9 +126,7 @@ module _ (t : List ℕ) (ok : wellFormed t ≡ true) where
 
   record-whole : (j : ℕ) → j < countOf t → length (recordAt t (capacityOf t) j) ≡ recordWidth (capacityOf t)
   record-whole j h =
-      let c = capacityOf t in
-      length-take-le (recordWidth c) (drop (recordPlace c j) t)
-      (simp length-drop (omega (arith, record-inside c j (countOf t) h, long)))
+      record-length t (capacityOf t) j (omega (arith, record-inside (capacityOf t) j (countOf t) h, long))
 
   record-words : (j : ℕ) → j < countOf t →
       recordWords (capacityOf t) (procAt (ringOf t) j) (queueOf (ringOf t) j) ≡ recordAt t (capacityOf t) j

@@ -5,8 +5,8 @@ use mathlib.Core.List.{List, [], _++_}
 use native.Mathlib.Nat.{suc-mul, mul-le-mul-right, add-sub-cancel-left}
 use native.Mathlib.Numerals.{add-one}
 use native.Mathlib.Omega.{arith}
-use lib.ListN.{length, take, drop, length-append}
-use lib.Seq.{drop-at}
+use lib.ListN.{length, take, drop, length-append, length-drop}
+use lib.Seq.{drop-at, length-take-le}
 use Rattle.gateway.specs.declared.Proc.{Proc}
 use Rattle.gateway.specs.declared.Msg.{Msg}
 use Rattle.ring.specs.Ring.{Ring, queueOf}
@@ -33,6 +33,11 @@ use Rattle.words.proofs.Records.{length-record, read-proc, read-queue}
 pub record-inside : (c j n : ℕ) → j < n → recordPlace c j + recordWidth c ≤ tableLength n c
 record-inside c j n h =
     omega (arith, mul-le-mul-right {m = suc j} {n = n} (recordWidth c) h, suc-mul j (recordWidth c))
+
+-- a record that lies within a slice is whole
+pub record-length : (t : List ℕ) (c j : ℕ) → recordPlace c j + recordWidth c ≤ length t →
+    length (recordAt t c j) ≡ recordWidth c
+record-length t c j h = length-take-le (recordWidth c) (drop (recordPlace c j) t) (simp length-drop (omega arith))
 
 -- a is where record j begins, w is how long it is
 module _ (c j a w : ℕ) (at : a ≡ recordPlace c j) (wide : w ≡ recordWidth c) where

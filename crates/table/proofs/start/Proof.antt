@@ -3,7 +3,7 @@ use mathlib.Core.Path.{sym, _∙_}
 use native.Mathlib.Omega.{arith}
 use borrow.Author.Needs.{needs}
 use lib.ListN.{length}
-use Rattle.table.proofs.Laying.{size-fits, start-unsized, start-short, start-repeats, start-done}
+use Rattle.table.proofs.Answers.{size-fits, start-unsized, start-short, start-repeats, start-done}
 use Rattle.table.proofs.start.Statement.{statement}
 use Rattle.table.proofs.start.Tie as tie
 

@@ -1,7 +1,7 @@
 -- `table::lent::put_at` fills the first free slot of record j and changes its state. Assumes nothing.
 use native.Mathlib.Omega.{arith}
-use Rattle.words.proofs.Tables.{record-part}
-use Rattle.table.proofs.Lending.{record-length, lend-put}
+use Rattle.words.proofs.Tables.{record-length, record-part}
+use Rattle.table.proofs.Lending.{lend-put}
 use Rattle.table.specs.Inside.{putWords}
 use borrow.Author.Needs.{needs}
 use Rattle.table.proofs.lent.put_at.Statement.{statement}
