@@ -1,5 +1,5 @@
 -- A ring that fits n and c: n processes, n queues, none longer than c; a move keeps it, over any rows. Assumes nothing.
-use Prim.Native.Nat.{ℕ, zero, suc, _<_, _≤_}
+use Prim.Native.Nat.{ℕ, _<_, _≤_}
 use mathlib.Core.Path.{_≡_, ap, _∙_}
 use mathlib.Core.List.{List, [], _∷_, _++_}
 use native.Mathlib.Decide.{ℕ-discrete}
@@ -7,11 +7,8 @@ use native.Mathlib.Omega.{arith}
 use lib.ListN.{length, getD, set, length-append, length-set}
 use lib.Seq.{getD-set-same, getD-set-other}
 use Rattle.ring.specs.Ring.{Ring, made, prev, queueOf, Rules, move}
+use Rattle.ring.proofs.Around.{prev-below}
 use Rattle.ring.proofs.Moves.{Made, made-put, made-take, made-announce, made-is}
-
-pub prev-below : (n j : ℕ) → j < n → prev n j < n
-prev-below n zero h = omega arith
-prev-below n (suc j) h = omega arith
 
 -- queues of at most c stay so where one becomes another of at most c
 queues-fit : {M : Type 0} (n c : ℕ) (qs : List (List M)) (i : ℕ) (q : List M) → length qs ≡ n → i < n →

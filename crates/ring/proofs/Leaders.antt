@@ -1,8 +1,9 @@
 -- Who leads is the lowest process in state 6, and there is one where some process is. Assumes nothing.
 use Prim.Native.Nat.{ℕ, _<_}
-use mathlib.Core.Path.{_≡_, sym, ap, _∙_}
-use mathlib.Core.Bool.{true, false}
-use borrow.Author.Tests.{eqb-true, eqb-false}
+use mathlib.Core.Path.{_≡_, refl, sym, ap, _∙_}
+use mathlib.Core.Bool.{Bool, true, false}
+use mathlib.Core.Logic.{_≢_}
+use borrow.Author.Tests.{eqb-true, eqb-false, ltb-true}
 use lib.Dec.{eqb, ltb}
 use lib.Seq.{getD-set-other}
 use Rattle.gateway.specs.declared.State.{State}
@@ -53,6 +54,22 @@ module _ (n : ℕ) (R : Ring Proc Msg) where
   pub leader-found : hasLeader n R ≡ ltb (leaderOf n R) n
   unfolding hasLeader leaderOf
   leader-found = some-first (isIn Leads R) n
+
+  -- where one leads, and where none does
+  pub somebody-leads : hasLeader n R ≡ true → (j : ℕ) × (j < n) × (procAt R j .state ≡ Leads)
+  somebody-leads e =
+      let l = ltb-true (leaderOf n R) n (sym leader-found ∙ e) in (leaderOf n R, l, leader-leads l)
+
+  pub nobody-leads : hasLeader n R ≡ false → (j : ℕ) → j < n → procAt R j .state ≢ Leads
+  unfolding hasLeader
+  nobody-leads e j l = not-in-state Leads R j (none-at (isIn Leads R) n j l e)
+
+  pub leads-found : (j : ℕ) → j < n → procAt R j .state ≡ Leads → hasLeader n R ≡ true
+  leads-found j l e = go (hasLeader n R) refl
+    where
+      go : (b : Bool) → hasLeader n R ≡ b → b ≡ true
+      go true h = refl
+      go false h = absurd (nobody-leads h j l e)
 
 -- the processes but j stay
 others-stay : (n c : ℕ) (R : Ring Proc Msg) (j : ℕ) (R′ : Ring Proc Msg) → Made gateways n c R j R′ →

@@ -112,3 +112,9 @@ module _ {P M : Type 0} (G : Rules P M) (n c : ℕ) where
       go : Dec (j < n) → (j < n) × Made R j R′
       go (yes l) = (l, by (case-of R j l))
       go (no l) = absurd (made-not R′ (NoProcess n) (sym e ∙ move-out R j (omega arith)))
+
+  -- who moved wanted something
+  pub mover-wants : (R : Ring P M) (j : ℕ) (R′ : Ring P M) → Made R j R′ → wants G R j ≡ stays → ⊥
+  mover-wants R j _ (made-put m p w room) z = let y : _≡_ {A = ℕ} 0 1 = cc in omega arith
+  mover-wants R j _ (made-take k m q p w hq e) z = let y : _≡_ {A = ℕ} 0 1 = cc in omega arith
+  mover-wants R j _ (made-announce p w) z = let y : _≡_ {A = ℕ} 0 1 = cc in omega arith

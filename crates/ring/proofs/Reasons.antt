@@ -157,3 +157,11 @@ module _ (n c : ℕ) (R : Ring Proc Msg) (j : ℕ) (l : j < n) where
 
   pub over-refused : numberOf (procAt R j) ≡ 6 → move gateways n c R j ≡ refused (Over j)
   over-refused e = serves stays (wants-in (procAt R j) Leads e)
+
+-- state 6 is where nothing is wanted --
+
+pub leads-stays : (p : Proc) → p .state ≡ Leads → wanted p (row p) ≡ stays
+leads-stays p e = ap (λ (s : State). wanted p (rowIn s p)) e
+
+pub stays-leads : (R : Ring Proc Msg) (j : ℕ) → wants gateways R j ≡ stays → procAt R j .state ≡ Leads
+stays-leads R j e = state-apart (procAt R j .state) Leads (wants-tells R j stays e)

@@ -11,18 +11,12 @@ use lib.Dec.{eqb}
 use Rattle.ring.specs.Ring.{Ring, Out, refused, made, Rules, move, ringAfter, takenBy, skippedBy}
 use Rattle.ring.specs.Runs.{Run, ends, endUsedUp, endOver, endSpent, runFrom}
 use Rattle.ring.proofs.Tests.{either}
+use Rattle.ring.proofs.Choices.{choice-keeps}
 
 module _ {P M : Type 0} (G : Rules P M) (n c : ℕ) (isOver : Ring P M → Bool) where
   -- a property of rings that every move keeps
   module _ (I : Ring P M → Type 0)
       (keeps : (R : Ring P M) (j : ℕ) (R′ : Ring P M) → I R → move G n c R j ≡ made R′ → I R′) where
-    choice-keeps : (R : Ring P M) (j : ℕ) → I R → I (ringAfter R (move G n c R j))
-    choice-keeps R j i = go (move G n c R j) refl
-      where
-        go : (o : Out P M) → move G n c R j ≡ o → I (ringAfter R o)
-        go (refused x) e = i
-        go (made R′) e = keeps R j R′ i e
-
     pub run-keeps : (js : List ℕ) (R : Ring P M) (b t s : ℕ) → I R → I (runFrom G n c isOver js R b t s .ring)
     unfolding runFrom
     run-keeps [] R b t s i =
@@ -30,7 +24,8 @@ module _ {P M : Type 0} (G : Rules P M) (n c : ℕ) (isOver : Ring P M → Bool)
     run-keeps (j ∷ js) R b t s i =
         let o = move G n c R j in
         let next = runFrom G n c isOver js (ringAfter R o) b (t + takenBy o) (s + skippedBy o) in
-        let later = run-keeps js (ringAfter R o) b (t + takenBy o) (s + skippedBy o) (choice-keeps R j i) in
+        let kept = choice-keeps G n c (λ R m. I R) (λ R m. keeps R) R t j i in
+        let later = run-keeps js (ringAfter R o) b (t + takenBy o) (s + skippedBy o) kept in
         let rest = either (λ (r : Run P M). I (r .ring)) (eqb t b) (ends R endSpent t s) next i later in
         either (λ (r : Run P M). I (r .ring)) (isOver R) (ends R endOver t s) _ i rest
 

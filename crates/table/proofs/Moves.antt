@@ -22,7 +22,7 @@ use Rattle.rows.proofs.Tests.{ite-lt, ite-le}
 use Rattle.ring.specs.Ring.{Ring, puts, announces, prev, queueOf, becoming, putting, taking}
 use Rattle.ring.specs.Gateways.{gateways, starting, procAt, wanted}
 use Rattle.ring.proofs.Moves.{move-in, move-out}
-use Rattle.ring.proofs.Good.{prev-below}
+use Rattle.ring.proofs.Around.{prev-below}
 use Rattle.words.specs.Table.{tableWords, countOf, capacityOf, recordAt, restOf, readProc, lengthOf, ringOf}
 use Rattle.words.specs.Outcomes.{rewritten}
 use Rattle.words.proofs.Sound.{Sound, formed-sound}

@@ -9,6 +9,7 @@ pub mod Formed
 pub mod Outside
 pub mod Kept
 pub mod Beside
+pub mod WhoLeads
 pub mod StepByStep
 pub mod Ended
 pub mod Joining
@@ -19,3 +20,4 @@ pub mod Told
 pub mod Refused
 pub mod ToldFor
 pub mod GivenWhen
+pub mod Called

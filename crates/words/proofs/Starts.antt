@@ -1,47 +1,28 @@
 -- A start that is done leaves a well-formed table, of the started ring. Assumes nothing.
 use Prim.Native.Nat.{ℕ}
-use mathlib.Core.Path.{_≡_, refl, sym, ap}
+use mathlib.Core.Path.{_≡_, refl, sym}
 use mathlib.Core.Bool.{Bool, true, false, cond, not}
-use mathlib.Core.List.{List, [], _∷_, _++_, map}
+use mathlib.Core.List.{List, _++_}
 use native.Mathlib.Omega.{arith}
 use borrow.Author.Tests.{ltb-false, not-false}
-use lib.ListN.{length, getD, drop, length-map, List·getD-map}
+use lib.ListN.{length, drop}
 use lib.Dec.{ltb}
 use Rattle.refusal.specs.declared.Refusal.{Refusal}
 use Rattle.refusal.specs.declared.Refusal.the-variants.{Count, Capacity, Short, Repeated}
 use Rattle.refusal.specs.declared.Answer.{Answer}
 use Rattle.refusal.specs.declared.Answer.the-variants.{Done, Refused}
-use Rattle.gateway.specs.declared.Proc.{Proc}
-use Rattle.gateway.specs.declared.Msg.{Msg}
 use Rattle.ring.specs.Identities.{identOf, Distinct, firstRepeat}
-use Rattle.ring.specs.Gateways.{starting, procAt, started}
-use Rattle.ring.proofs.Good.{Good}
+use Rattle.ring.specs.Gateways.{procAt, started}
+use Rattle.ring.proofs.Started.{started-good, started-ident}
 use Rattle.ring.proofs.Identity.{same-distinct, unrepeated-distinct}
 use Rattle.words.specs.Layout.{mostProcesses, mostCapacity, tableLength}
-use Rattle.words.specs.Table.{tableWords, ringOf}
+use Rattle.words.specs.Table.{tableWords, countOf, capacityOf, ringOf}
 use Rattle.words.specs.WellFormed.{inRange, wellFormed}
 use Rattle.words.specs.Outcomes.{startOf}
 use Rattle.words.proofs.Ranges.{range-is}
-use Rattle.words.proofs.Tables.{ring-back}
+use Rattle.words.proofs.Tables.{count-back, capacity-back, ring-back}
 use Rattle.words.proofs.Sound.{Sized}
 use Rattle.words.proofs.Formed.{words-formed}
-
-no-messages : (ids : List ℕ) (j : ℕ) → getD (map {B = List Msg} (λ i. []) ids) j [] ≡ []
-no-messages [] j = refl
-no-messages (i ∷ ids) ℕ.zero = refl
-no-messages (i ∷ ids) (ℕ.suc j) = no-messages ids j
-
-pub started-good : (ids : List ℕ) (c : ℕ) → Good (length ids) c (started ids)
-unfolding started
-started-good ids c = record {
-  procs = length-map ids starting;
-  queues = length-map ids (λ i. []);
-  fitting = λ j h. rw (no-messages ids j) (omega arith);
-}
-
-pub started-ident : (ids : List ℕ) (j : ℕ) → procAt (started ids) j .ident ≡ identOf ids j
-unfolding started
-started-ident ids j = ap (λ (p : Proc). p .ident) (List·getD-map starting ids j 0)
 
 -- what a start that was not refused found, and what it left
 pub record Ready (t ids : List ℕ) (c : ℕ) : Type 0 where
@@ -89,3 +70,11 @@ module _ (t ids : List ℕ) (c : ℕ) (done : startOf t ids c .0 ≡ Done) where
   start-ring =
       rw (ready .words)
       (ring-back (length ids) c (started ids) (drop (tableLength (length ids) c) t) (started-good ids c))
+
+  -- of as many processes and of that capacity
+  pub start-count : countOf (startOf t ids c .1) ≡ length ids
+  start-count = rw (ready .words) (count-back (length ids) c (started ids) (drop (tableLength (length ids) c) t))
+
+  pub start-capacity : capacityOf (startOf t ids c .1) ≡ c
+  start-capacity =
+      rw (ready .words) (capacity-back (length ids) c (started ids) (drop (tableLength (length ids) c) t))

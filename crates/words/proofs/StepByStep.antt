@@ -4,36 +4,24 @@ use Prim.Native.Nat.{ℕ, _+_}
 use mathlib.Core.Path.{_≡_, refl, sym, ap, _∙_}
 use mathlib.Core.Bool.{Bool, true, false, cond}
 use mathlib.Core.List.{List, [], _∷_}
-use lib.Dec.{eqb, ltb}
+use lib.Dec.{eqb}
 use Rattle.refusal.specs.declared.Answer.{Answer}
 use Rattle.refusal.specs.declared.Answer.the-variants.{Done, Refused}
 use Rattle.gateway.specs.declared.Proc.{Proc}
 use Rattle.gateway.specs.declared.Msg.{Msg}
 use Rattle.ring.specs.Ring.{Ring, Out, refused, made, move, ringAfter, takenBy, skippedBy}
 use Rattle.ring.specs.Runs.{Run, ends, endUsedUp, endOver, endSpent, runFrom}
-use Rattle.ring.specs.Gateways.{gateways, procAt, hasLeader, leaderOf}
-use Rattle.ring.proofs.Leaders.{leader-found}
+use Rattle.ring.specs.Gateways.{gateways, hasLeader}
 use Rattle.words.specs.declared.Ran.{Ran}
 use Rattle.words.specs.declared.Ran.the-variants as Ran
-use Rattle.words.specs.declared.Leading.{Leading}
-use Rattle.words.specs.declared.Leading.the-variants as Leading
 use Rattle.words.specs.Table.{countOf, capacityOf, ringOf}
 use Rattle.words.specs.WellFormed.{wellFormed}
-use Rattle.words.specs.Outcomes.{rewritten, stepped, stepOf, ran, runOf, leadsOf}
+use Rattle.words.specs.Outcomes.{rewritten, stepped, takenFor, stepOf, ran, runOf, leadsOf}
 use Rattle.words.proofs.Sound.{formed-image}
+use Rattle.words.proofs.WhoLeads.{somebody, somebody-leads}
 use Rattle.words.proofs.Beside.{ending, ending-beside, move-ring, move-beside}
 
--- somebody leads
-abbrev pub somebody : Leading → Bool
-somebody (Leading.Leader j v) = true
-somebody Leading.Nobody = false
-somebody (Leading.Refused x) = false
-
--- what a step's answer adds to taken and to skipped
-abbrev pub takenFor : Answer → ℕ
-takenFor Done = 1
-takenFor (Refused x) = 0
-
+-- what a step's answer adds to skipped
 abbrev pub skippedFor : Answer → ℕ
 skippedFor Done = 0
 skippedFor (Refused x) = 1
@@ -47,17 +35,7 @@ stepwise t (x ∷ xs) budget k s =
     cond (somebody (leadsOf t)) (Ran.Ended endOver k s, t) (cond (eqb k budget) (Ran.Ended endSpent k s, t) later)
 
 module _ (t : List ℕ) (ok : wellFormed t ≡ true) where
-  somebody-leads : somebody (leadsOf t) ≡ hasLeader (countOf t) (ringOf t)
-  unfolding leadsOf
-  somebody-leads =
-      let j = leaderOf (countOf t) (ringOf t) in
-      rw (ok, leader-found (countOf t) (ringOf t)) (go j (procAt (ringOf t) j .d) (ltb j (countOf t)))
-    where
-      go : (j v : ℕ) (b : Bool) → somebody (cond b (Leading.Leader j v) Leading.Nobody) ≡ b
-      go j v true = refl
-      go j v false = refl
-
-  step-is : (x : ℕ) (o : Out Proc Msg) → move gateways (countOf t) (capacityOf t) (ringOf t) x ≡ o →
+  pub step-is : (x : ℕ) (o : Out Proc Msg) → move gateways (countOf t) (capacityOf t) (ringOf t) x ≡ o →
       stepOf t x ≡ stepped t o
   unfolding stepOf
   step-is x o e = rw (ok, e)

@@ -50,6 +50,11 @@ abbrev pub stepped : List ℕ → Out Proc Msg → Answer × List ℕ
 stepped t (refused x) = (Refused x, t)
 stepped t (made R) = (Done, rewritten t R)
 
+-- what a step's answer adds to the moves taken
+abbrev pub takenFor : Answer → ℕ
+takenFor Done = 1
+takenFor (Refused x) = 0
+
 -- a step of process j: 5, else what comes of the choice
 unfoldable pub stepOf : List ℕ → ℕ → Answer × List ℕ
 stepOf t j =

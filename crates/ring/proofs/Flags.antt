@@ -1,0 +1,36 @@
+-- Whether a value is the one asked for, as 1 or 0. Assumes nothing.
+use mathlib.Core.Path.{_≡_, refl}
+use mathlib.Core.Logic.{ite, _≢_}
+use Prim.Native.Nat.{ℕ, _≤_}
+use native.Mathlib.Decide.{ℕ-discrete}
+use native.Mathlib.Omega.{arith}
+use Rattle.ring.specs.Active.{flag}
+
+module _ (v x : ℕ) where
+  pub flag-one : v ≡ x → flag v x ≡ 1
+  flag-one e = go (ℕ-discrete v x)
+    where
+      go : (t : Dec (v ≡ x)) → _≡_ {A = ℕ} (ite t 1 0) 1
+      go (yes q) = refl
+      go (no q) = absurd (q e)
+
+  pub flag-zero : v ≢ x → flag v x ≡ 0
+  flag-zero ne = go (ℕ-discrete v x)
+    where
+      go : (t : Dec (v ≡ x)) → _≡_ {A = ℕ} (ite t 1 0) 0
+      go (yes q) = absurd (ne q)
+      go (no q) = refl
+
+  pub flag-is : 1 ≤ flag v x → v ≡ x
+  flag-is h = go (ℕ-discrete v x) h
+    where
+      go : (t : Dec (v ≡ x)) → 1 ≤ ite t 1 0 → v ≡ x
+      go (yes q) l = q
+      go (no q) l = absurd (omega arith)
+
+  pub flag-bit : flag v x ≤ 1
+  flag-bit = go (ℕ-discrete v x)
+    where
+      go : (t : Dec (v ≡ x)) → ite t 1 0 ≤ 1
+      go (yes q) = omega arith
+      go (no q) = omega arith

@@ -1,0 +1,11 @@
+-- Laws of rounds.
+pub mod Examples
+pub mod Upward
+pub mod Laps
+pub mod Rules
+pub mod Heard
+pub mod Origins
+pub mod Counts
+pub mod Tops
+pub mod Lasts
+pub mod Ends
