@@ -48,7 +48,7 @@ abbrev bit : Bool → ℕ
 bit b = cond b 1 0
 
 -- 1 where a process is in state 6
-abbrev pub inSix : Proc → ℕ
+abbrev inSix : Proc → ℕ
 inSix p = bit (isLeading p)
 
 -- how many processes of a ring are

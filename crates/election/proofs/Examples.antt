@@ -27,6 +27,17 @@ pub ring374 : Ring374
 unfolding settled decLt
 ring374 = record { relay0 = refl; relay1 = refl; stays2 = refl }
 
+-- ring 4, 1, 3, 2: after two rounds process 3 is left with 4, and each relay has the second value that it passed on
+pub record Ring4132 : Type 0 where
+  pub relay0 : seatIn (contest (4 ∷ 1 ∷ 3 ∷ 2 ∷ [])) 2 0 ≡ passes 4 2
+  pub relay1 : seatIn (contest (4 ∷ 1 ∷ 3 ∷ 2 ∷ [])) 2 1 ≡ passes 4 3
+  pub relay2 : seatIn (contest (4 ∷ 1 ∷ 3 ∷ 2 ∷ [])) 2 2 ≡ passes 3 1
+  pub stays3 : seatIn (contest (4 ∷ 1 ∷ 3 ∷ 2 ∷ [])) 2 3 ≡ holds 4 4
+
+pub ring4132 : Ring4132
+unfolding settled decLt
+ring4132 = record { relay0 = refl; relay1 = refl; relay2 = refl; stays3 = refl }
+
 -- the moves of the cards: 3 of a ring of one, 13, 19 and 41
 pub record Cards : Type 0 where
   pub rounds-of-one : rounds (7 ∷ []) ≡ 0

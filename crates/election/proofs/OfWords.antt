@@ -29,7 +29,7 @@ use Rattle.election.specs.Announcing.{Announced}
 use Rattle.election.proofs.Elections as Elections
 use Rattle.election.proofs.Unreached as Unreached
 
-module _ (ids : List ℕ) (c : ℕ) (able : Electable ids) (t : List ℕ) (k : ℕ) (r : Reaches ids c t k) where
+module _ (ids : List ℕ) (able : Electable ids) (c : ℕ) (t : List ℕ) (k : ℕ) (r : Reaches ids c t k) where
   pub largest-once : activeIn (length ids) (largest ids) (ringOf t) ≡ 1
   largest-once = rw (r .ring) (Elections.largest-once ids able c (r .choices))
 
@@ -50,8 +50,7 @@ module _ (ids : List ℕ) (c : ℕ) (able : Electable ids) (t : List ℕ) (k : �
       (j, ap (λ (o : Answer × List ℕ). o .0) (step-is t (r .formed) j (made R) (here j ∙ m)))
 
   pub never-nine : (j i : ℕ) → stepOf t j .0 ≢ Refused (WrongKind i)
-  never-nine j i e =
-      go (move gateways (countOf t) (capacityOf t) (ringOf t) j) refl
+  never-nine j i e = go (move gateways (countOf t) (capacityOf t) (ringOf t) j) refl
     where
       go : (o : Out Proc Msg) → move gateways (countOf t) (capacityOf t) (ringOf t) j ≡ o → ⊥
       go (refused x) m =
@@ -114,6 +113,6 @@ pub same-end : (ids : List ℕ) (able : Electable ids) (c c′ : ℕ) (t t′ : 
 same-end ids able c c′ t t′ k k′ r r′ j v j′ v′ e e′ =
     r .ring
     ∙ Elections.same-end ids able c c′ (r .choices) (r′ .choices)
-    (leads-found (length ids) _ j (below ids c able t k r j v e) (leads ids c able t k r j v e))
-    (leads-found (length ids) _ j′ (below ids c′ able t′ k′ r′ j′ v′ e′) (leads ids c′ able t′ k′ r′ j′ v′ e′))
+    (leads-found (length ids) _ j (below ids able c t k r j v e) (leads ids able c t k r j v e))
+    (leads-found (length ids) _ j′ (below ids able c′ t′ k′ r′ j′ v′ e′) (leads ids able c′ t′ k′ r′ j′ v′ e′))
     ∙ sym (r′ .ring)

@@ -125,52 +125,53 @@ module _ (t ids : List ℕ) (c : ℕ) (done : startOf t ids c .0 ≡ Done) (call
   pub words-reached : Reaches ids c words (takenIn calls first)
   words-reached = calls-reach t ids c done calls
 
+  -- what the start has tested
   able : Electable ids
   able = done-electable t ids c done
 
-  -- 1. The largest identity stands in exactly one active position of their ring.
+  -- 7.1. The largest identity stands in exactly one active position of their ring.
   pub words-largest-once : activeIn (length ids) (largest ids) (ringOf words) ≡ 1
-  words-largest-once = OfWords.largest-once ids c able words _ words-reached
+  words-largest-once = OfWords.largest-once ids able c words _ words-reached
 
-  -- 2. Where nobody leads, a step of some process is done.
+  -- 7.2. Where nobody leads, a step of some process is done.
   pub words-somebody-moves : leadsOf words ≡ Nobody → (j : ℕ) × (stepOf words j .0 ≡ Done)
-  words-somebody-moves = OfWords.somebody-moves ids c able words _ words-reached
+  words-somebody-moves = OfWords.somebody-moves ids able c words _ words-reached
 
-  -- 3. The answers count at most 6 × n × n moves,
+  -- 7.3. The answers count at most 6 × n × n moves,
   pub words-moves-most : takenIn calls first ≤ mostMoves (length ids)
-  words-moves-most = OfWords.moves-most ids c able words _ words-reached
+  words-moves-most = OfWords.moves-most ids able c words _ words-reached
 
   -- and where somebody leads exactly 4 × n × R + 2 × n + 1.
   pub words-moves-exactly : (j v : ℕ) → leadsOf words ≡ Leader j v → takenIn calls first ≡ movesToEnd ids
-  words-moves-exactly = OfWords.moves-exactly ids c able words _ words-reached
+  words-moves-exactly = OfWords.moves-exactly ids able c words _ words-reached
 
-  -- 4. At most one process is in state 6;
+  -- 7.4. At most one process is in state 6;
   pub words-one-leads : (j k : ℕ) → j < length ids → k < length ids → procAt (ringOf words) j .state ≡ Leads →
       procAt (ringOf words) k .state ≡ Leads → j ≡ k
-  words-one-leads = OfWords.one-leads ids c able words _ words-reached
+  words-one-leads = OfWords.one-leads ids able c words _ words-reached
 
   -- who leads, leads with the largest identity,
   pub words-lead-largest : (j v : ℕ) → leadsOf words ≡ Leader j v → v ≡ largest ids
-  words-lead-largest = OfWords.leads-largest ids c able words _ words-reached
+  words-lead-largest = OfWords.leads-largest ids able c words _ words-reached
 
   -- has it as its d, with all others in state 4, all queues empty and nobody that can move,
   pub words-announced-then : (j v : ℕ) → leadsOf words ≡ Leader j v → Announced ids c (ringOf words) j
-  words-announced-then = OfWords.announced-then ids c able words _ words-reached
+  words-announced-then = OfWords.announced-then ids able c words _ words-reached
 
   -- and more calls leave every word and take no move.
   pub words-stay-so : (j v : ℕ) → leadsOf words ≡ Leader j v → (more : List Call) →
       (wordsAfter more words ≡ words) × (takenIn more words ≡ 0)
-  words-stay-so = OfWords.ended-same ids c able words _ words-reached
+  words-stay-so = OfWords.ended-same ids able c words _ words-reached
 
-  -- 5. No step is refused by 9,
+  -- 7.5. No step is refused by 9,
   pub words-never-nine : (j place : ℕ) → stepOf words j .0 ≢ Refused (WrongKind place)
-  words-never-nine = OfWords.never-nine ids c able words _ words-reached
+  words-never-nine = OfWords.never-nine ids able c words _ words-reached
 
   -- and the words are never 1 1 7 4 7 7 0 0 0 0, whatever stands behind.
   pub words-never-unreached : (rest : List ℕ) → words ≢ unreached ++ rest
-  words-never-unreached = OfWords.never-unreached ids c able words _ words-reached
+  words-never-unreached = OfWords.never-unreached ids able c words _ words-reached
 
-  -- 6. Wherever the same identities were started and calls came to somebody who leads, the ring is the same;
+  -- 7.6. Wherever the same identities were started and calls came to somebody who leads, the ring is the same;
   pub words-same-end : (t′ : List ℕ) (c′ : ℕ) → startOf t′ ids c′ .0 ≡ Done → (calls′ : List Call) →
       let words′ = wordsAfter calls′ (startOf t′ ids c′ .1) in
       (j v j′ v′ : ℕ) → leadsOf words ≡ Leader j v → leadsOf words′ ≡ Leader j′ v′ → ringOf words ≡ ringOf words′
