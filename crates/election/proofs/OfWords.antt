@@ -1,7 +1,7 @@
 -- Demand 3 of a slice whose words are those of a ring that choices reach, by what the entries answer. Assumes nothing.
 use Prim.Native.Nat.{ℕ, _+_, _≤_, _<_}
 use mathlib.Core.Path.{_≡_, refl, sym, ap, _∙_}
-use mathlib.Core.List.{List, [], _++_}
+use mathlib.Core.List.{List, _++_}
 use mathlib.Core.Logic.{_≢_}
 use native.Mathlib.Omega.{arith}
 use lib.ListN.{length}
@@ -15,10 +15,10 @@ use Rattle.ring.specs.Ring.{Ring, Out, refused, made, move}
 use Rattle.ring.specs.Identities.{largest}
 use Rattle.ring.specs.Gateways.{gateways, procAt}
 use Rattle.ring.specs.Active.{activeIn}
-use Rattle.words.specs.declared.Leading.the-variants as Leading
+use Rattle.words.specs.declared.Leading.the-variants.{Leader, Nobody}
 use Rattle.words.specs.Table.{countOf, capacityOf, ringOf}
-use Rattle.words.specs.Outcomes.{stepOf, leadsOf}
-use Rattle.words.specs.Calls.{Call, wordsAfter, takenIn}
+use Rattle.words.specs.Outcomes.{rewritten, stepped, stepOf, leadsOf}
+use Rattle.words.specs.Calls.{Calls, none}
 use Rattle.words.proofs.StepByStep.{step-is}
 use Rattle.words.proofs.WhoLeads.{Led, nobody-then, leader-then}
 use Rattle.words.proofs.Called.{calls-called, called-same}
@@ -42,26 +42,25 @@ module _ (ids : List ℕ) (able : Electable ids) (c : ℕ) (t : List ℕ) (k : �
       ≡ move gateways (length ids) c (reached ids c (r .choices)) j
   here j = rw (r .count, r .capacity, r .ring)
 
-  pub somebody-moves : leadsOf t ≡ Leading.Nobody → (j : ℕ) × (stepOf t j .0 ≡ Done)
+  pub somebody-moves : Nobody ≡ leadsOf t → (j : ℕ) × (t′ : List ℕ) × ((Done, t′) ≡ stepOf t j)
   somebody-moves e =
-      let none = rw (r .count, r .ring) at (nobody-then t (r .formed) e) in
+      let none = rw (r .count, r .ring) at (nobody-then t (r .formed) (sym e)) in
       let (j, can) = Elections.somebody-moves ids able c (r .choices) (r .roomy) none in
       let (R, m) = can in
-      (j, ap (λ (o : Answer × List ℕ). o .0) (step-is t (r .formed) j (made R) (here j ∙ m)))
+      (j, rewritten t R, sym (step-is t (r .formed) j (made R) (here j ∙ m)))
 
-  pub never-nine : (j i : ℕ) → stepOf t j .0 ≢ Refused (WrongKind i)
-  never-nine j i e = go (move gateways (countOf t) (capacityOf t) (ringOf t) j) refl
+  pub never-nine : (j place : ℕ) (t′ : List ℕ) → (Refused (WrongKind place), t′) ≢ stepOf t j
+  never-nine j place t′ e = go (move gateways (countOf t) (capacityOf t) (ringOf t) j) refl
     where
+      told : (o : Out Proc Msg) → move gateways (countOf t) (capacityOf t) (ringOf t) j ≡ o →
+          Refused (WrongKind place) ≡ stepped t o .0
+      told o m = ap (λ (x : Answer × List ℕ). x .0) (e ∙ step-is t (r .formed) j o m)
+
       go : (o : Out Proc Msg) → move gateways (countOf t) (capacityOf t) (ringOf t) j ≡ o → ⊥
       go (refused x) m =
-          let z : Refused x ≡ Refused (WrongKind i) =
-          sym (ap (λ (o : Answer × List ℕ). o .0) (step-is t (r .formed) j (refused x) m)) ∙ e in
-          let y : x ≡ WrongKind i = cc in
-          Elections.never-nine ids able c (r .choices) j i (sym (here j) ∙ m ∙ ap refused y)
-      go (made R) m =
-          let z : Done ≡ Refused (WrongKind i) =
-          sym (ap (λ (o : Answer × List ℕ). o .0) (step-is t (r .formed) j (made R) m)) ∙ e in
-          let y : _≡_ {A = ℕ} 0 1 = cc in omega arith
+          let same : x ≡ WrongKind place = cc (told (refused x) m) in
+          Elections.never-nine ids able c (r .choices) j place (sym (here j) ∙ m ∙ ap refused same)
+      go (made R) m = let y : _≡_ {A = ℕ} 0 1 = cc (told (made R) m) in omega arith
 
   pub one-leads : (i j : ℕ) → i < length ids → j < length ids → procAt (ringOf t) i .state ≡ Leads →
       procAt (ringOf t) j .state ≡ Leads → i ≡ j
@@ -72,9 +71,9 @@ module _ (ids : List ℕ) (able : Electable ids) (c : ℕ) (t : List ℕ) (k : �
       Unreached.never-unreached ids able c (r .choices) (sym (r .ring) ∙ ap ringOf e ∙ Unreached.behind-same rest)
 
   -- where process j leads, with v
-  module _ (j v : ℕ) (e : leadsOf t ≡ Leading.Leader j v) where
+  module _ (j v : ℕ) (e : Leader j v ≡ leadsOf t) where
     led : Led t j v
-    led = leader-then t (r .formed) j v e
+    led = leader-then t (r .formed) j v (sym e)
 
     below : j < length ids
     below = rw (r .count) at (led .below)
@@ -100,16 +99,15 @@ module _ (ids : List ℕ) (able : Electable ids) (c : ℕ) (t : List ℕ) (k : �
         (h .ring ∙ ended .0, omega (arith, h .taken, ended .1))
 
     -- so calls leave every word, and take no move
-    pub ended-same : (more : List Call) → (wordsAfter more t ≡ t) × (takenIn more t ≡ 0)
-    ended-same more =
-        let called = calls-called more t (r .formed) 0 in
-        let (ring, taken) = no-more _ _ (called .chosen) in
-        (called-same t more [] (r .formed) ring, omega (arith, taken))
+    pub ended-same : (t′ : List ℕ) (k′ : ℕ) → Calls t t′ k′ → (t′ ≡ t) × (k′ ≡ 0)
+    ended-same t′ k′ calls =
+        let (ring, taken) = no-more (ringOf t′) k′ (calls-called t (r .formed) t′ k′ calls .chosen) in
+        (called-same t (r .formed) t′ t k′ 0 calls none ring, taken)
 
 -- two slices, each with one that leads, have one ring
 pub same-end : (ids : List ℕ) (able : Electable ids) (c c′ : ℕ) (t t′ : List ℕ) (k k′ : ℕ) →
     Reaches ids c t k → Reaches ids c′ t′ k′ → (j v j′ v′ : ℕ) →
-    leadsOf t ≡ Leading.Leader j v → leadsOf t′ ≡ Leading.Leader j′ v′ → ringOf t ≡ ringOf t′
+    Leader j v ≡ leadsOf t → Leader j′ v′ ≡ leadsOf t′ → ringOf t ≡ ringOf t′
 same-end ids able c c′ t t′ k k′ r r′ j v j′ v′ e e′ =
     r .ring
     ∙ Elections.same-end ids able c c′ (r .choices) (r′ .choices)

@@ -20,8 +20,7 @@ use Rattle.words.specs.declared.Leading.the-variants.{Leader, Nobody}
 use Rattle.words.specs.Table.{tableWords, ringOf}
 use Rattle.words.specs.WellFormed.{wellFormed}
 use Rattle.words.specs.Outcomes.{startOf, stepOf, leadsOf}
-use Rattle.words.specs.Calls.{Call, wordsAfter, takenIn}
-use Rattle.words.proofs.Starts.{start-formed}
+use Rattle.words.specs.Calls.{Calls}
 use Rattle.words.proofs.Called.{called-same}
 use Rattle.election.specs.Deciding.{rounds}
 use Rattle.election.specs.Reaching.{
@@ -36,7 +35,7 @@ use Rattle.election.specs.Reaching.{
 use Rattle.election.specs.Announcing.{announcements, Announced}
 use Rattle.election.proofs.Elections as Elections
 use Rattle.election.proofs.Unreached as Unreached
-use Rattle.election.proofs.Slices.{done-electable, calls-reach}
+use Rattle.election.proofs.Slices.{done-electable, done-formed, calls-reach}
 use Rattle.election.proofs.OfWords as OfWords
 
 -- of the ring --
@@ -112,75 +111,70 @@ same-table ids able c choices choices′ e e′ =
 
 -- of the words --
 
--- 7. A start that is done, and then any calls of step and run with any choices, schedules and budgets.
-module _ (t ids : List ℕ) (c : ℕ) (done : startOf t ids c .0 ≡ Done) (calls : List Call) where
-  -- the words of the slice after the start, and at this moment
-  abbrev first : List ℕ
-  first = startOf t ids c .1
-
-  abbrev words : List ℕ
-  words = wordsAfter calls first
-
-  -- They are a table whose ring choices reach, as many of them carried out as the answers count.
-  pub words-reached : Reaches ids c words (takenIn calls first)
-  words-reached = calls-reach t ids c done calls
+-- 7. A start that is done, and then calls of step and run with any choices, schedules and budgets, each with the answer
+-- and the words that its contract allows; k moves were counted as taken.
+module _ (t ids : List ℕ) (c : ℕ) (t₀ : List ℕ) (laid : (Done, t₀) ≡ startOf t ids c)
+    (words : List ℕ) (k : ℕ) (calls : Calls t₀ words k) where
+  -- The words are a table whose ring choices reach, k of them carried out.
+  pub words-reached : Reaches ids c words k
+  words-reached = calls-reach t ids c t₀ laid words k calls
 
   -- what the start has tested
   able : Electable ids
-  able = done-electable t ids c done
+  able = done-electable t ids c t₀ laid
 
   -- 7.1. The largest identity stands in exactly one active position of their ring.
   pub words-largest-once : activeIn (length ids) (largest ids) (ringOf words) ≡ 1
-  words-largest-once = OfWords.largest-once ids able c words _ words-reached
+  words-largest-once = OfWords.largest-once ids able c words k words-reached
 
   -- 7.2. Where nobody leads, a step of some process is done.
-  pub words-somebody-moves : leadsOf words ≡ Nobody → (j : ℕ) × (stepOf words j .0 ≡ Done)
-  words-somebody-moves = OfWords.somebody-moves ids able c words _ words-reached
+  pub words-somebody-moves : Nobody ≡ leadsOf words → (j : ℕ) × (t′ : List ℕ) × ((Done, t′) ≡ stepOf words j)
+  words-somebody-moves = OfWords.somebody-moves ids able c words k words-reached
 
-  -- 7.3. The answers count at most 6 × n × n moves,
-  pub words-moves-most : takenIn calls first ≤ mostMoves (length ids)
-  words-moves-most = OfWords.moves-most ids able c words _ words-reached
+  -- 7.3. At most 6 × n × n moves were taken,
+  pub words-moves-most : k ≤ mostMoves (length ids)
+  words-moves-most = OfWords.moves-most ids able c words k words-reached
 
   -- and where somebody leads exactly 4 × n × R + 2 × n + 1.
-  pub words-moves-exactly : (j v : ℕ) → leadsOf words ≡ Leader j v → takenIn calls first ≡ movesToEnd ids
-  words-moves-exactly = OfWords.moves-exactly ids able c words _ words-reached
+  pub words-moves-exactly : (j v : ℕ) → Leader j v ≡ leadsOf words → k ≡ movesToEnd ids
+  words-moves-exactly = OfWords.moves-exactly ids able c words k words-reached
 
   -- 7.4. At most one process is in state 6;
-  pub words-one-leads : (j k : ℕ) → j < length ids → k < length ids → procAt (ringOf words) j .state ≡ Leads →
-      procAt (ringOf words) k .state ≡ Leads → j ≡ k
-  words-one-leads = OfWords.one-leads ids able c words _ words-reached
+  pub words-one-leads : (i j : ℕ) → i < length ids → j < length ids → procAt (ringOf words) i .state ≡ Leads →
+      procAt (ringOf words) j .state ≡ Leads → i ≡ j
+  words-one-leads = OfWords.one-leads ids able c words k words-reached
 
   -- who leads, leads with the largest identity,
-  pub words-lead-largest : (j v : ℕ) → leadsOf words ≡ Leader j v → v ≡ largest ids
-  words-lead-largest = OfWords.leads-largest ids able c words _ words-reached
+  pub words-lead-largest : (j v : ℕ) → Leader j v ≡ leadsOf words → v ≡ largest ids
+  words-lead-largest = OfWords.leads-largest ids able c words k words-reached
 
   -- has it as its d, with all others in state 4, all queues empty and nobody that can move,
-  pub words-announced-then : (j v : ℕ) → leadsOf words ≡ Leader j v → Announced ids c (ringOf words) j
-  words-announced-then = OfWords.announced-then ids able c words _ words-reached
+  pub words-announced-then : (j v : ℕ) → Leader j v ≡ leadsOf words → Announced ids c (ringOf words) j
+  words-announced-then = OfWords.announced-then ids able c words k words-reached
 
   -- and more calls leave every word and take no move.
-  pub words-stay-so : (j v : ℕ) → leadsOf words ≡ Leader j v → (more : List Call) →
-      (wordsAfter more words ≡ words) × (takenIn more words ≡ 0)
-  words-stay-so = OfWords.ended-same ids able c words _ words-reached
+  pub words-stay-so : (j v : ℕ) → Leader j v ≡ leadsOf words → (words′ : List ℕ) (k′ : ℕ) → Calls words words′ k′ →
+      (words′ ≡ words) × (k′ ≡ 0)
+  words-stay-so = OfWords.ended-same ids able c words k words-reached
 
   -- 7.5. No step is refused by 9,
-  pub words-never-nine : (j place : ℕ) → stepOf words j .0 ≢ Refused (WrongKind place)
-  words-never-nine = OfWords.never-nine ids able c words _ words-reached
+  pub words-never-nine : (j place : ℕ) (t′ : List ℕ) → (Refused (WrongKind place), t′) ≢ stepOf words j
+  words-never-nine = OfWords.never-nine ids able c words k words-reached
 
   -- and the words are never 1 1 7 4 7 7 0 0 0 0, whatever stands behind.
   pub words-never-unreached : (rest : List ℕ) → words ≢ unreached ++ rest
-  words-never-unreached = OfWords.never-unreached ids able c words _ words-reached
+  words-never-unreached = OfWords.never-unreached ids able c words k words-reached
 
   -- 7.6. Wherever the same identities were started and calls came to somebody who leads, the ring is the same;
-  pub words-same-end : (t′ : List ℕ) (c′ : ℕ) → startOf t′ ids c′ .0 ≡ Done → (calls′ : List Call) →
-      let words′ = wordsAfter calls′ (startOf t′ ids c′ .1) in
-      (j v j′ v′ : ℕ) → leadsOf words ≡ Leader j v → leadsOf words′ ≡ Leader j′ v′ → ringOf words ≡ ringOf words′
-  words-same-end t′ c′ done′ calls′ =
-      OfWords.same-end ids able c c′ words _ _ _ words-reached (calls-reach t′ ids c′ done′ calls′)
+  pub words-same-end : (t′ : List ℕ) (c′ : ℕ) (t₀′ : List ℕ) → (Done, t₀′) ≡ startOf t′ ids c′ →
+      (words′ : List ℕ) (k′ : ℕ) → Calls t₀′ words′ k′ → (j v j′ v′ : ℕ) →
+      Leader j v ≡ leadsOf words → Leader j′ v′ ≡ leadsOf words′ → ringOf words ≡ ringOf words′
+  words-same-end t′ c′ t₀′ laid′ words′ k′ calls′ =
+      OfWords.same-end ids able c c′ words words′ k k′ words-reached (calls-reach t′ ids c′ t₀′ laid′ words′ k′ calls′)
 
-  -- and in this slice so are all its words.
-  pub words-same-words : (calls′ : List Call) →
-      let words′ = wordsAfter calls′ first in
-      (j v j′ v′ : ℕ) → leadsOf words ≡ Leader j v → leadsOf words′ ≡ Leader j′ v′ → words ≡ words′
-  words-same-words calls′ j v j′ v′ e e′ =
-      called-same first calls calls′ (start-formed t ids c done) (words-same-end t c done calls′ j v j′ v′ e e′)
+  -- and from this start so are all words.
+  pub words-same-words : (words′ : List ℕ) (k′ : ℕ) → Calls t₀ words′ k′ → (j v j′ v′ : ℕ) →
+      Leader j v ≡ leadsOf words → Leader j′ v′ ≡ leadsOf words′ → words ≡ words′
+  words-same-words words′ k′ calls′ j v j′ v′ e e′ =
+      called-same t₀ (done-formed t ids c t₀ laid) words words′ k k′ calls calls′
+      (words-same-end t c t₀ laid words′ k′ calls′ j v j′ v′ e e′)

@@ -17,13 +17,13 @@ use Rattle.rounds.proofs.Counts.{HolderIn, holderIn, all-hold, times-wi
 use Rattle.rounds.proofs.Tops.{top-kept, top-heard, top-held, fewer-next, top-next}
 
 module _ (K : Contest) (top : ℕ) (F : Fair K top) where
-  -- a round in which the largest identity is held, and before which one seat was never left
-  record Reached (r : ℕ) : Type 0 where
+  -- a round in which the largest identity is held, where no earlier one had a single seat left
+  record Undecided (r : ℕ) : Type 0 where
     some : 1 ≤ timesIn K top r
     earlier : (s : ℕ) → s < r → holdingIn K s ≢ 1
 
-  reached-next : (r : ℕ) → Reached r → holdingIn K r ≢ 1 → Reached (suc r)
-  reached-next r at more =
+  next-undecided : (r : ℕ) → Undecided r → holdingIn K r ≢ 1 → Undecided (suc r)
+  next-undecided r at more =
       record {
         some = top-next K top F r (at .some) (omega (arith, times-within K top r));
         earlier = λ s l. go s l (ℕ-discrete s r);
@@ -38,14 +38,14 @@ module _ (K : Contest) (top : ℕ) (F : Fair K top) where
     round : ℕ
     small : round < K .size
     left : holdingIn K round ≡ 1
-    at : Reached round
+    at : Undecided round
 
   -- from round r on, where at most k hold a value: each round has fewer
-  find : (k r : ℕ) → holdingIn K r ≤ k → k + r ≤ K .size → Reached r → Found
+  find : (k r : ℕ) → holdingIn K r ≤ k → k + r ≤ K .size → Undecided r → Found
   find zero r few room at = absurd (omega (arith, times-within K top r))
   find (suc k) r few room at =
       let fewer = fewer-next K top F r (at .some) in
-      go (ℕ-discrete (holdingIn K r) 1) (λ more. find k (suc r) (omega arith) (omega arith) (reached-next r at more))
+      go (ℕ-discrete (holdingIn K r) 1) (λ more. find k (suc r) (omega arith) (omega arith) (next-undecided r at more))
     where
       go : Dec (holdingIn K r ≡ 1) → (holdingIn K r ≢ 1 → Found) → Found
       go (yes one) later = record { round = r; small = omega arith; left = one; at = at }

@@ -2,8 +2,7 @@
 use Prim.Native.Nat.{ℕ, _+_}
 use mathlib.Core.Path.{_≡_, refl, sym, ap, subst, _∙_}
 use mathlib.Core.Bool.{true}
-use mathlib.Core.List.{List, [], _∷_}
-use native.Mathlib.Nat.{add-assoc, add-zero}
+use mathlib.Core.List.{List}
 use native.Mathlib.Omega.{arith}
 use Rattle.refusal.specs.declared.Answer.{Answer}
 use Rattle.gateway.specs.declared.Proc.{Proc}
@@ -11,11 +10,11 @@ use Rattle.gateway.specs.declared.Msg.{Msg}
 use Rattle.ring.specs.Ring.{Ring, Out, refused, made, move, ringAfter, takenBy}
 use Rattle.ring.specs.Gateways.{gateways, running}
 use Rattle.ring.proofs.Chosen.{Chosen, chosen-none, chosen-first, chosen-then, run-chosen}
+use Rattle.words.specs.declared.Ran.{Ran}
 use Rattle.words.specs.Table.{countOf, capacityOf, ringOf}
 use Rattle.words.specs.WellFormed.{wellFormed}
-use Rattle.words.specs.Outcomes.{rewritten, stepped, takenFor, runOf, runTold}
-use Rattle.words.specs.Calls as Calls
-use Rattle.words.specs.Calls.{Call, step, run, leftBy, wordsAfter, takenIn}
+use Rattle.words.specs.Outcomes.{rewritten, stepped, takenFor, stepOf, runOf, runTold}
+use Rattle.words.specs.Calls.{Calls, none, step, run}
 use Rattle.words.proofs.Beside.{
   Beside,
   beside-self,
@@ -52,6 +51,11 @@ module _ (t : List ℕ) (ok : wellFormed t ≡ true) (k : ℕ) where
       go (refused x) e h = record { beside = beside-self t ok; chosen = h }
       go (made R) e h = record { beside = move-beside t ok j R e; chosen = rw (move-ring t ok j R e) h }
 
+  step-called : (j : ℕ) → Called t k (stepOf t j .1) (k + takenFor (stepOf t j .0))
+  step-called j =
+      subst (λ (o : Answer × List ℕ). Called t k (o .1) (k + takenFor (o .0))) (sym (step-is t ok j _ refl))
+      (choice-called j _ refl)
+
   run-called : (schedule : List ℕ) (budget : ℕ) →
       Called t k (runOf t schedule budget .1) (k + runTold (runOf t schedule budget .0) .taken)
   run-called schedule budget =
@@ -68,12 +72,6 @@ module _ (t : List ℕ) (ok : wellFormed t ≡ true) (k : ℕ) where
           Chosen gateways (countOf t) (capacityOf t) (ringOf t) k R (k + m)
       later R m h = record { choices = h .choices; ring = h .ring; taken = omega (arith, h .taken) }
 
-  call-called : (x : Call) → Called t k (leftBy x t) (k + Calls.takenBy x t)
-  call-called (step j) =
-      subst (λ (o : Answer × List ℕ). Called t k (o .1) (k + takenFor (o .0))) (sym (step-is t ok j _ refl))
-      (choice-called j _ refl)
-  call-called (run schedule budget) = run-called schedule budget
-
 called-then : (t : List ℕ) (k : ℕ) (t₁ : List ℕ) (k₁ : ℕ) (t₂ : List ℕ) (k₂ : ℕ) →
     Called t k t₁ k₁ → Called t₁ k₁ t₂ k₂ → Called t k t₂ k₂
 called-then t k t₁ k₁ t₂ k₂ a b =
@@ -84,20 +82,23 @@ called-then t k t₁ k₁ t₂ k₂ a b =
     }
 
 -- calls one after another
-pub calls-called : (xs : List Call) (t : List ℕ) → wellFormed t ≡ true → (k : ℕ) →
-    Called t k (wordsAfter xs t) (k + takenIn xs t)
-calls-called [] t ok k =
-    record { beside = beside-self t ok; chosen = rw add-zero (chosen-none gateways (countOf t) (capacityOf t) _ k) }
-calls-called (x ∷ xs) t ok k =
-    let k₁ = k + Calls.takenBy x t in
-    let one = call-called t ok k x in
-    let rest = calls-called xs (leftBy x t) (one .beside .formed) k₁ in
-    rw (← add-assoc) (called-then t k _ k₁ _ _ one rest)
+pub calls-called : (t : List ℕ) → wellFormed t ≡ true → (t′ : List ℕ) (k : ℕ) → Calls t t′ k → Called t 0 t′ k
+calls-called t ok _ _ none =
+    record { beside = beside-self t ok; chosen = chosen-none gateways (countOf t) (capacityOf t) (ringOf t) 0 }
+calls-called t ok _ _ (step t₁ k before chosen a t₂ e) =
+    let was = calls-called t ok t₁ k before in
+    let Here : Answer × List ℕ → Type 0 = λ o. Called t₁ k (o .1) (k + takenFor (o .0)) in
+    called-then t 0 t₁ k t₂ (k + takenFor a) was (subst Here (sym e) (step-called t₁ (was .beside .formed) k chosen))
+calls-called t ok _ _ (run t₁ k before schedule budget a t₂ e) =
+    let was = calls-called t ok t₁ k before in
+    let Here : Ran × List ℕ → Type 0 = λ o. Called t₁ k (o .1) (k + runTold (o .0) .taken) in
+    called-then t 0 t₁ k t₂ (k + runTold a .taken) was
+    (subst Here (sym e) (run-called t₁ (was .beside .formed) k schedule budget))
 
--- calls that leave one ring leave the same words
-pub called-same : (t : List ℕ) (xs ys : List Call) → wellFormed t ≡ true →
-    ringOf (wordsAfter xs t) ≡ ringOf (wordsAfter ys t) → wordsAfter xs t ≡ wordsAfter ys t
-called-same t xs ys ok e =
-    beside-image t (wordsAfter xs t) (calls-called xs t ok 0 .beside)
+-- calls that come to one ring come to the same words
+pub called-same : (t : List ℕ) → wellFormed t ≡ true → (t₁ t₂ : List ℕ) (k₁ k₂ : ℕ) →
+    Calls t t₁ k₁ → Calls t t₂ k₂ → ringOf t₁ ≡ ringOf t₂ → t₁ ≡ t₂
+called-same t ok t₁ t₂ k₁ k₂ x y e =
+    beside-image t t₁ (calls-called t ok t₁ k₁ x .beside)
     ∙ ap (rewritten t) e
-    ∙ sym (beside-image t (wordsAfter ys t) (calls-called ys t ok 0 .beside))
+    ∙ sym (beside-image t t₂ (calls-called t ok t₂ k₂ y .beside))

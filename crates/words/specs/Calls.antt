@@ -1,29 +1,17 @@
--- Calls of step and run on the words of one slice, one after another.
+-- Calls of step and run on one slice, one after another: whatever the contracts of the entries allow.
 use Prim.Native.Nat.{ℕ, _+_}
-use mathlib.Core.List.{List, [], _∷_}
+use mathlib.Core.Path.{_≡_}
+use mathlib.Core.List.{List}
+use Rattle.refusal.specs.declared.Answer.{Answer}
+use Rattle.words.specs.declared.Ran.{Ran}
 use Rattle.words.specs.Outcomes.{takenFor, stepOf, runOf, runTold}
 
--- a step of the chosen process, or a run of a schedule on a budget
-pub data Call : Type 0 where
-  step : ℕ → Call
-  run : List ℕ → ℕ → Call
-
--- the words that a call leaves
-abbrev pub leftBy : Call → List ℕ → List ℕ
-leftBy (step chosen) t = stepOf t chosen .1
-leftBy (run schedule budget) t = runOf t schedule budget .1
-
--- the moves that its answer counts as taken
-abbrev pub takenBy : Call → List ℕ → ℕ
-takenBy (step chosen) t = takenFor (stepOf t chosen .0)
-takenBy (run schedule budget) t = runTold (runOf t schedule budget .0) .taken
-
--- the words that calls leave
-abbrev pub wordsAfter : List Call → List ℕ → List ℕ
-wordsAfter [] t = t
-wordsAfter (x ∷ xs) t = wordsAfter xs (leftBy x t)
-
--- the moves taken in all of them
-abbrev pub takenIn : List Call → List ℕ → ℕ
-takenIn [] t = 0
-takenIn (x ∷ xs) t = takenBy x t + takenIn xs (leftBy x t)
+-- from the words t calls come to other words, and their answers count so many moves as taken
+pub data Calls (t : List ℕ) : List ℕ → ℕ → Type 0 where
+  none : Calls t t 0
+  -- then a step of the chosen process
+  step : (t₁ : List ℕ) (k : ℕ) → Calls t t₁ k → (chosen : ℕ) (a : Answer) (t₂ : List ℕ) →
+      (a, t₂) ≡ stepOf t₁ chosen → Calls t t₂ (k + takenFor a)
+  -- then a run of a schedule on a budget
+  run : (t₁ : List ℕ) (k : ℕ) → Calls t t₁ k → (schedule : List ℕ) (budget : ℕ) (a : Ran) (t₂ : List ℕ) →
+      (a, t₂) ≡ runOf t₁ schedule budget → Calls t t₂ (k + runTold a .taken)
