@@ -12,4 +12,5 @@ pub mod Elections
 pub mod Unreached
 pub mod Slices
 pub mod OfWords
+pub mod Arriving
 pub mod Theorems

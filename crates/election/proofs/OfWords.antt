@@ -15,15 +15,15 @@ use Rattle.ring.specs.Ring.{Ring, Out, refused, made, move}
 use Rattle.ring.specs.Identities.{largest}
 use Rattle.ring.specs.Gateways.{gateways, procAt}
 use Rattle.ring.specs.Active.{activeIn}
+use Rattle.ring.proofs.Chosen.{Chosen}
+use Rattle.ring.proofs.Leaders.{leads-found}
 use Rattle.words.specs.declared.Leading.the-variants.{Leader, Nobody}
 use Rattle.words.specs.Table.{countOf, capacityOf, ringOf}
 use Rattle.words.specs.Outcomes.{rewritten, stepped, stepOf, leadsOf}
-use Rattle.words.specs.Calls.{Calls, none}
+use Rattle.words.specs.Calls.{Calls, no-calls}
 use Rattle.words.proofs.StepByStep.{step-is}
 use Rattle.words.proofs.WhoLeads.{Led, nobody-then, leader-then}
 use Rattle.words.proofs.Called.{calls-called, called-same}
-use Rattle.ring.proofs.Chosen.{Chosen}
-use Rattle.ring.proofs.Leaders.{leads-found}
 use Rattle.election.specs.Reaching.{Electable, reached, mostMoves, movesToEnd, Reaches, unreached}
 use Rattle.election.specs.Announcing.{Announced}
 use Rattle.election.proofs.Elections as Elections
@@ -102,7 +102,7 @@ module _ (ids : List ℕ) (able : Electable ids) (c : ℕ) (t : List ℕ) (k : �
     pub ended-same : (t′ : List ℕ) (k′ : ℕ) → Calls t t′ k′ → (t′ ≡ t) × (k′ ≡ 0)
     ended-same t′ k′ calls =
         let (ring, taken) = no-more (ringOf t′) k′ (calls-called t (r .formed) t′ k′ calls .chosen) in
-        (called-same t (r .formed) t′ t k′ 0 calls none ring, taken)
+        (called-same t (r .formed) t′ t k′ 0 calls no-calls ring, taken)
 
 -- two slices, each with one that leads, have one ring
 pub same-end : (ids : List ℕ) (able : Electable ids) (c c′ : ℕ) (t t′ : List ℕ) (k k′ : ℕ) →

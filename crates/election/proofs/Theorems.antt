@@ -37,6 +37,7 @@ use Rattle.election.proofs.Elections as Elections
 use Rattle.election.proofs.Unreached as Unreached
 use Rattle.election.proofs.Slices.{done-electable, done-formed, calls-reach}
 use Rattle.election.proofs.OfWords as OfWords
+use Rattle.election.proofs.Arriving as Arriving
 
 -- of the ring --
 
@@ -52,6 +53,10 @@ module _ (ids : List ℕ) (able : Electable ids) (c : ℕ) (choices : List ℕ) 
   -- 2. Until some process is in state 6, at least one process can move: its choice is carried out.
   pub somebody-moves : 1 ≤ c → hasLeader (length ids) now ≡ false → (j : ℕ) × CanMove gateways (length ids) c now j
   somebody-moves = Elections.somebody-moves ids able c choices
+
+  -- So some further choices lead there.
+  pub some-announce : 1 ≤ c → (more : List ℕ) × (hasLeader (length ids) (reached ids c (choices ++ more)) ≡ true)
+  some-announce roomy = Arriving.arrives ids able c roomy choices
 
   -- 3. At most 6 × n × n choices are carried out, up to and with the announcement, and no more where none has come;
   pub moves-most : carriedOut ids c choices ≤ mostMoves (length ids)
@@ -130,6 +135,11 @@ module _ (t ids : List ℕ) (c : ℕ) (t₀ : List ℕ) (laid : (Done, t₀) ≡
   -- 7.2. Where nobody leads, a step of some process is done.
   pub words-somebody-moves : Nobody ≡ leadsOf words → (j : ℕ) × (t′ : List ℕ) × ((Done, t′) ≡ stepOf words j)
   words-somebody-moves = OfWords.somebody-moves ids able c words k words-reached
+
+  -- So some further calls lead there.
+  pub words-some-lead : (words′ : List ℕ) × (m : ℕ) × (j : ℕ) × (v : ℕ) × Calls words words′ m
+      × (Leader j v ≡ leadsOf words′)
+  words-some-lead = Arriving.steps-lead t ids c t₀ laid words k calls
 
   -- 7.3. At most 6 × n × n moves were taken,
   pub words-moves-most : k ≤ mostMoves (length ids)

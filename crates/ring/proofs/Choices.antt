@@ -1,6 +1,6 @@
 -- Choices of any ring: what every move keeps they keep, and a list of them and then another. Assumes nothing.
 use Prim.Native.Nat.{ℕ, suc, _+_}
-use mathlib.Core.Path.{_≡_, refl}
+use mathlib.Core.Path.{_≡_, refl, ap}
 use mathlib.Core.List.{List, [], _∷_, _++_}
 use native.Mathlib.Nat.{add-zero, add-assoc}
 use native.Mathlib.Numerals.{add-one}
@@ -37,3 +37,9 @@ module _ {P M : Type 0} (G : Rules P M) (n c : ℕ) where
   unfolding after moves
   moves-joined [] ks R = omega arith
   moves-joined (j ∷ js) ks R = omega (arith, moves-joined js ks (ringAfter R (move G n c R j)))
+
+  -- one choice more that is carried out is one move more
+  pub moves-one-more : (js : List ℕ) (R : Ring P M) (j : ℕ) (R′ : Ring P M) →
+      move G n c (after G n c R js) j ≡ made R′ → moves G n c R (js ++ (j ∷ [])) ≡ suc (moves G n c R js)
+  unfolding moves
+  moves-one-more js R j R′ e = omega (arith, moves-joined js (j ∷ []) R, ap takenBy e)

@@ -3,11 +3,11 @@ use mathlib.Core.Path.{_≡_, ap}
 use Prim.Native.Nat.{ℕ, zero, suc, _≤_, _<_}
 use native.Mathlib.Decide.{ℕ-discrete}
 use native.Mathlib.Omega.{arith}
+use Rattle.ring.proofs.Counting.{upward}
 use Rattle.ring.proofs.Sums.{sum-most, sum-ones, sum-of-one}
 use Rattle.rounds.specs.Seats.{Seat, holds, Values, isHolding}
 use Rattle.rounds.specs.Contests.{Contest, seatIn, heardIn, holdingIn}
 use Rattle.rounds.proofs.Rules.{isValue, isHeard, Rule, timesIn}
-use Rattle.rounds.proofs.Upward.{upward}
 use Rattle.rounds.proofs.Heard.{holding-bit, value-holding, heard-as-held}
 use Rattle.rounds.proofs.Origins.{Holder, holder, alone}
 

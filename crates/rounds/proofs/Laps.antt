@@ -5,9 +5,9 @@ use native.Mathlib.Decide.{ℕ-discrete}
 use native.Mathlib.Omega.{arith}
 use Rattle.ring.specs.Ring.{prev}
 use Rattle.ring.specs.Active.{sum}
+use Rattle.ring.proofs.Counting.{upward}
 use Rattle.ring.proofs.Sums.{some-term}
 use Rattle.rounds.specs.Seats.{Seat, holds, passes, Values, values, sends, along, settled, hears, isHolding}
-use Rattle.rounds.proofs.Upward.{upward}
 
 module _ (f : ℕ → Seat) where
   -- where no seat holds a value, what comes to seat 0 comes through

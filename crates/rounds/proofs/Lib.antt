@@ -1,6 +1,5 @@
 -- Laws of rounds.
 pub mod Examples
-pub mod Upward
 pub mod Laps
 pub mod Rules
 pub mod Heard

@@ -14,7 +14,7 @@ use Rattle.words.specs.declared.Ran.{Ran}
 use Rattle.words.specs.Table.{countOf, capacityOf, ringOf}
 use Rattle.words.specs.WellFormed.{wellFormed}
 use Rattle.words.specs.Outcomes.{rewritten, stepped, takenFor, stepOf, runOf, runTold}
-use Rattle.words.specs.Calls.{Calls, none, step, run}
+use Rattle.words.specs.Calls.{Calls, no-calls, then-step, then-run}
 use Rattle.words.proofs.Beside.{
   Beside,
   beside-self,
@@ -83,13 +83,13 @@ called-then t k t₁ k₁ t₂ k₂ a b =
 
 -- calls one after another
 pub calls-called : (t : List ℕ) → wellFormed t ≡ true → (t′ : List ℕ) (k : ℕ) → Calls t t′ k → Called t 0 t′ k
-calls-called t ok _ _ none =
+calls-called t ok _ _ no-calls =
     record { beside = beside-self t ok; chosen = chosen-none gateways (countOf t) (capacityOf t) (ringOf t) 0 }
-calls-called t ok _ _ (step t₁ k before chosen a t₂ e) =
+calls-called t ok _ _ (then-step t₁ k before chosen a t₂ e) =
     let was = calls-called t ok t₁ k before in
     let Here : Answer × List ℕ → Type 0 = λ o. Called t₁ k (o .1) (k + takenFor (o .0)) in
     called-then t 0 t₁ k t₂ (k + takenFor a) was (subst Here (sym e) (step-called t₁ (was .beside .formed) k chosen))
-calls-called t ok _ _ (run t₁ k before schedule budget a t₂ e) =
+calls-called t ok _ _ (then-run t₁ k before schedule budget a t₂ e) =
     let was = calls-called t ok t₁ k before in
     let Here : Ran × List ℕ → Type 0 = λ o. Called t₁ k (o .1) (k + runTold (o .0) .taken) in
     called-then t 0 t₁ k t₂ (k + runTold a .taken) was

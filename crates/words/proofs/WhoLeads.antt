@@ -3,6 +3,7 @@ use Prim.Native.Nat.{ℕ, _<_}
 use mathlib.Core.Path.{_≡_, refl, sym, ap, subst, _∙_}
 use mathlib.Core.Bool.{Bool, true, false, cond}
 use mathlib.Core.List.{List}
+use mathlib.Core.Logic.{_⊎_, inl, inr}
 use borrow.Author.Tests.{ltb-true, lt-ltb}
 use lib.Dec.{ltb}
 use Rattle.gateway.specs.declared.State.the-variants.{Leads}
@@ -39,6 +40,16 @@ module _ (t : List ℕ) (ok : wellFormed t ≡ true) where
       go : (j v : ℕ) (b : Bool) → somebody (cond b (Leading.Leader j v) Leading.Nobody) ≡ b
       go j v true = refl
       go j v false = refl
+
+  -- nobody leads, or somebody does
+  pub leads-or-not : (Leading.Nobody ≡ leadsOf t) ⊎ ((j v : ℕ) × (Leading.Leader j v ≡ leadsOf t))
+  leads-or-not = rw leads-is (go _ _ (ltb (leaderOf (countOf t) (ringOf t)) (countOf t)))
+    where
+      go : (j v : ℕ) (b : Bool) →
+          let answer = cond b (Leading.Leader j v) Leading.Nobody in
+          (Leading.Nobody ≡ answer) ⊎ ((i u : ℕ) × (Leading.Leader i u ≡ answer))
+      go j v true = inr (j, v, refl)
+      go j v false = inl refl
 
   pub nobody-then : leadsOf t ≡ Leading.Nobody → hasLeader (countOf t) (ringOf t) ≡ false
   nobody-then e = sym somebody-leads ∙ ap somebody e
