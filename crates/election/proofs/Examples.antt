@@ -55,9 +55,10 @@ cards = record { rounds-of-one = refl; rounds-of-four = refl; one = refl; two = 
 pub record Ring59 : Type 0 where
   pub carried : carriedOut (5 ∷ 9 ∷ []) 1 (turns 12) ≡ 13
   pub within : carriedOut (5 ∷ 9 ∷ []) 1 (turns 12) ≤ mostMoves 2
+  pub limit : mostMoves 2 ≡ 24
   pub announced : announcements gateways 2 1 (started (5 ∷ 9 ∷ [])) (turns 12) ≡ 1
   pub not-before : announcements gateways 2 1 (started (5 ∷ 9 ∷ [])) (turns 3) ≡ 0
 
 pub ring59 : Ring59
 unfolding move moves announcements started decLt ℕ-discrete
-ring59 = record { carried = refl; within = omega arith; announced = refl; not-before = refl }
+ring59 = record { carried = refl; within = omega arith; limit = refl; announced = refl; not-before = refl }
