@@ -12,8 +12,6 @@ use Rattle.gateway.specs.declared.Proc.{Proc}
 use Rattle.gateway.specs.declared.Msg.{Msg}
 use Rattle.gateway.specs.declared.Want as Asked
 use Rattle.gateway.specs.declared.Want.the-variants.{Puts, Takes, Announces, Ends}
-use Rattle.gateway.specs.declared.Took.{Took}
-use Rattle.gateway.specs.declared.Took.the-variants.{Becomes, Wrong}
 use Rattle.gateway.specs.Row.{row, took}
 use Rattle.gateway.proofs.Numbering.{state-apart}
 use Rattle.gateway.proofs.Changes.{isLeading, Wanting, Taking, row-changes, took-changes}
@@ -35,11 +33,11 @@ use Rattle.ring.specs.Ring.{
   move,
   after,
 }
-use Rattle.ring.specs.Gateways.{taken, wanted, gateways, procAt}
+use Rattle.ring.specs.Gateways.{wanted, gateways, procAt}
 use Rattle.ring.specs.Active.{sum, inQueue, inRing}
 use Rattle.ring.proofs.Sums.{sum-zero, sum-of-one}
 use Rattle.ring.proofs.Good.{Good, good-move}
-use Rattle.ring.proofs.Reasons.{leads-stays}
+use Rattle.ring.proofs.Reasons.{right-made, leads-stays}
 use Rattle.ring.proofs.Moves.{Made, made-put, made-take, made-announce, made-is, mover-wants}
 use Rattle.ring.proofs.Weights.{put-weight, take-weight, announce-weight}
 use Rattle.election.specs.Announcing.{isAnnouncement, announcements}
@@ -69,13 +67,9 @@ Enters (takes k) = (m : Msg) (q : Proc) → k m ≡ right q → inSix q ≡ 0
 Enters (announces q) = inSix q ≡ 1
 Enters stays = Unit {0}
 
-took-right : (x : Took) (q : Proc) → Taking x → taken x ≡ right q → inSix q ≡ 0
-took-right (Becomes p) q h e = let z : p ≡ q = cc in rw (← z) (ap bit h)
-took-right Wrong q h e = cc
-
 asked-enters : (p : Proc) (w : Asked.Want) → Wanting p w → Enters (wanted p w)
 asked-enters p (Puts m q) h = ap bit (h .leads)
-asked-enters p Takes h = λ m q e. took-right (took p m) q (took-changes p m) e
+asked-enters p Takes h = λ m q e. ap bit (subst Taking (right-made (took p m) q e) (took-changes p m))
 asked-enters p (Announces q) h = ap bit (h .leads)
 asked-enters p Ends h = tt
 

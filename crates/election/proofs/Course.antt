@@ -14,7 +14,7 @@ use Rattle.ring.specs.Active.{inProc, inMsg}
 use Rattle.ring.proofs.Started.{started-proc, started-queue, started-good}
 use Rattle.rounds.specs.Seats.{Seat, holds, passes, isHolding}
 use Rattle.rounds.specs.Contests.{seatIn, heardIn}
-use Rattle.rounds.proofs.Lasts.{Last}
+use Rattle.rounds.proofs.Last.{Last}
 use Rattle.clocks.proofs.Histories.{Keeps}
 use Rattle.clocks.proofs.Courses.{Course, Begins}
 use Rattle.election.specs.Deciding.{contest}

@@ -22,8 +22,8 @@ use Rattle.ring.proofs.Leaders.{somebody-leads, nobody-leads}
 use Rattle.ring.proofs.Largest.{none-larger}
 use Rattle.ring.proofs.Occurrences.{largest-occurs, each-once}
 use Rattle.ring.proofs.Started.{started-proc, started-queue, started-good}
-use Rattle.rounds.proofs.Lasts.{Last}
-use Rattle.rounds.proofs.Ends.{last-round}
+use Rattle.rounds.proofs.Last.{Last}
+use Rattle.rounds.proofs.LastRound.{last-round}
 use Rattle.clocks.proofs.Courses.{Setting}
 use Rattle.clocks.proofs.Outcomes as Clocks
 use Rattle.election.specs.Deciding.{contest, rounds}

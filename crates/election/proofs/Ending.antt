@@ -15,12 +15,12 @@ use Rattle.ring.specs.Ring.{stays}
 use Rattle.ring.specs.Identities.{identOf, largest}
 use Rattle.ring.specs.Gateways.{gateways}
 use Rattle.rounds.specs.Seats.{isHolding}
-use Rattle.rounds.proofs.Lasts.{Last}
+use Rattle.rounds.proofs.Last.{Last}
 use Rattle.clocks.proofs.Courses.{Follows}
 use Rattle.election.specs.Deciding.{contest}
 use Rattle.election.proofs.Moments.{move-in-round}
 use Rattle.election.proofs.Stages.{stage, StayIn}
-use Rattle.election.proofs.Counts.{sends-two, passes-on, leads-own, sends-one}
+use Rattle.election.proofs.SentAndGot.{sends-two, passes-on, leads-own, sends-one}
 use Rattle.election.proofs.RoundByRound.{seatAt, heardAt, stageIn, stageAt, history, DoesAt, does-at}
 
 module _ (ids : List ℕ) (L : Last (contest ids) (largest ids)) where

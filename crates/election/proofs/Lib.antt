@@ -3,7 +3,7 @@ pub mod Examples
 pub mod Halving
 pub mod Moments
 pub mod Stages
-pub mod Counts
+pub mod SentAndGot
 pub mod RoundByRound
 pub mod Ending
 pub mod Course

@@ -14,6 +14,8 @@ use Rattle.gateway.specs.declared.Kind.the-variants.{Passive, Active}
 use Rattle.gateway.specs.declared.Proc.{Proc}
 use Rattle.gateway.specs.declared.Msg.{Msg}
 use Rattle.gateway.specs.declared.Want.the-variants.{Puts, Announces}
+use Rattle.gateway.specs.declared.Took.{Took}
+use Rattle.gateway.specs.declared.Took.the-variants.{Becomes, Wrong}
 use Rattle.gateway.specs.Row.{msg, proc, inState, rowIn, tookIn, row, took}
 use Rattle.gateway.specs.Numbers.{stateNumber}
 use Rattle.gateway.proofs.Numbering.{state-apart}
@@ -67,6 +69,11 @@ Tells p stays = numberOf p ≡ 6
 -- a message that makes a process another is not of the wrong kind
 right-not : (p : Proc) → _≡_ {A = Take Proc} (right p) wrong → ⊥
 right-not p e = let z : _≡_ {A = ℕ} 0 1 = cc in omega arith
+
+-- and the one that it makes is the one that the row made
+pub right-made : (x : Took) (q : Proc) → taken x ≡ right q → x ≡ Becomes q
+right-made (Becomes p) q e = let z : p ≡ q = cc in ap Becomes z
+right-made Wrong q e = cc
 
 listens-wrong : (p : Proc) (k : Kind) (v : ℕ) → taken (tookIn Listens k p v) ≡ wrong → k ≡ Passive
 listens-wrong p Active v e = absurd (right-not _ e)

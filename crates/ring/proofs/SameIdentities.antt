@@ -8,12 +8,11 @@ use Rattle.gateway.specs.declared.Proc.{Proc}
 use Rattle.gateway.specs.declared.Msg.{Msg}
 use Rattle.gateway.specs.declared.Want as Asked
 use Rattle.gateway.specs.declared.Want.the-variants.{Puts, Takes, Announces, Ends}
-use Rattle.gateway.specs.declared.Took.{Took}
-use Rattle.gateway.specs.declared.Took.the-variants.{Becomes, Wrong}
 use Rattle.gateway.specs.Row.{row, took}
 use Rattle.gateway.proofs.SameIdentity.{Wanted, Taken, row-same, took-same}
 use Rattle.ring.specs.Ring.{right, Want, puts, takes, announces, stays, Ring, made, wants, move}
-use Rattle.ring.specs.Gateways.{taken, wanted, starting, gateways, procAt}
+use Rattle.ring.specs.Gateways.{wanted, starting, gateways, procAt}
+use Rattle.ring.proofs.Reasons.{right-made}
 use Rattle.ring.proofs.Moves.{Made, made-put, made-take, made-announce, made-is}
 
 -- the identities of a ring, in its order
@@ -30,13 +29,9 @@ Same i (takes k) = (m : Msg) (q : Proc) → k m ≡ right q → q .ident ≡ i
 Same i (announces q) = q .ident ≡ i
 Same i stays = Unit {0}
 
-took-right : (i : ℕ) (x : Took) (q : Proc) → Taken i x → taken x ≡ right q → q .ident ≡ i
-took-right i (Becomes p) q h e = let z : p ≡ q = cc in rw (← z) h
-took-right i Wrong q h e = cc
-
 asked-same : (p : Proc) (w : Asked.Want) → Wanted (p .ident) w → Same (p .ident) (wanted p w)
 asked-same p (Puts m q) h = h
-asked-same p Takes h = λ m q e. took-right (p .ident) (took p m) q (took-same p m) e
+asked-same p Takes h = λ m q e. subst (Taken (p .ident)) (right-made (took p m) q e) (took-same p m)
 asked-same p (Announces q) h = h
 asked-same p Ends h = tt
 

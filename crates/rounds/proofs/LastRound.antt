@@ -11,10 +11,10 @@ use Rattle.ring.proofs.Sums.{term-within, one-term}
 use Rattle.rounds.specs.Seats.{holds, isHolding}
 use Rattle.rounds.specs.Contests.{Contest, seatIn, heardIn, holdingIn}
 use Rattle.rounds.proofs.Rules.{timesIn, Fair}
-use Rattle.rounds.proofs.Lasts.{Last}
+use Rattle.rounds.proofs.Last.{Last}
 use Rattle.rounds.proofs.Heard.{holding-bit}
 use Rattle.rounds.proofs.Counts.{HolderIn, holderIn, all-hold, times-within, passes-on, none-later, one-holds}
-use Rattle.rounds.proofs.Tops.{top-kept, top-heard, top-held, fewer-next, top-next}
+use Rattle.rounds.proofs.LargestKept.{top-kept, top-heard, top-held, fewer-next, top-next}
 
 module _ (K : Contest) (top : ℕ) (F : Fair K top) where
   -- a round in which the largest identity is held, where no earlier one had a single seat left
