@@ -13,18 +13,18 @@ upward A on (suc m) (suc n) h a = upward (λ k. A (suc k)) (λ k. on (suc k)) m 
 
 -- what ends or counts one more, and never counts more than the limit
 module _ (A : ℕ → Type 0) (B : Type 0) (limit : ℕ) (within : (k : ℕ) → A k → k ≤ limit)
-    (on : (k : ℕ) → A k → B ⊎ A (k + 1)) where
-  ends-in : (left k : ℕ) → limit ≤ k + left → A k → B
-  ends-in zero k few a = go (on k a)
+    (on : (k : ℕ) → A k → B ⊎ A (suc k)) where
+  must-end-in : (left k : ℕ) → limit ≤ k + left → A k → B
+  must-end-in zero k few a = go (on k a)
     where
-      go : B ⊎ A (k + 1) → B
+      go : B ⊎ A (suc k) → B
       go (inl b) = b
-      go (inr next) = absurd (omega (arith, within (k + 1) next))
-  ends-in (suc left) k few a = go (on k a) (λ next. ends-in left (k + 1) (omega arith) next)
+      go (inr next) = absurd (omega (arith, within (suc k) next))
+  must-end-in (suc left) k few a = go (on k a) (λ next. must-end-in left (suc k) (omega arith) next)
     where
-      go : B ⊎ A (k + 1) → (A (k + 1) → B) → B
+      go : B ⊎ A (suc k) → (A (suc k) → B) → B
       go (inl b) later = b
       go (inr next) later = later next
 
-  pub ends : (k : ℕ) → A k → B
-  ends k a = ends-in limit k (omega arith) a
+  pub must-end : (k : ℕ) → A k → B
+  must-end k a = must-end-in limit k (omega arith) a

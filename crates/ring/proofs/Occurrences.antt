@@ -15,16 +15,16 @@ use Rattle.ring.proofs.Largest.{largest-one}
 
 module _ (ids : List ℕ) where
   -- how often x is an identity
-  abbrev pub timesIn : ℕ → ℕ
-  timesIn x = sum (λ j. flag (identOf ids j) x) (length ids)
+  abbrev pub timesAmong : ℕ → ℕ
+  timesAmong x = sum (λ j. flag (identOf ids j) x) (length ids)
 
-  pub largest-occurs : 1 ≤ length ids → 1 ≤ timesIn (largest ids)
+  pub largest-occurs : 1 ≤ length ids → 1 ≤ timesAmong (largest ids)
   largest-occurs some =
       let (j, l, e) = largest-one ids some in
       omega (arith, term-within (λ j. flag (identOf ids j) (largest ids)) (length ids) j l, flag-one _ _ e)
 
-  pub each-once : Distinct ids → (x : ℕ) → timesIn x ≤ 1
-  each-once distinct x = go (ℕ-discrete (timesIn x) 0)
+  pub each-once : Distinct ids → (x : ℕ) → timesAmong x ≤ 1
+  each-once distinct x = go (ℕ-discrete (timesAmong x) 0)
     where
       f : ℕ → ℕ
       f j = flag (identOf ids j) x
@@ -34,10 +34,10 @@ module _ (ids : List ℕ) where
       other j lj hj k lk ne (no z) =
           absurd (ne (distinct k j lk lj (flag-is (identOf ids k) x (omega arith) ∙ sym (flag-is _ x hj))))
 
-      by : (j : ℕ) × (j < length ids) × (1 ≤ f j) → timesIn x ≤ 1
+      by : (j : ℕ) × (j < length ids) × (1 ≤ f j) → timesAmong x ≤ 1
       by (j, lj, hj) =
           sum-of-one f (length ids) j (λ k lk ne. other j lj hj k lk ne (ℕ-discrete (f k) 0)) (flag-bit _ x)
 
-      go : Dec (timesIn x ≡ 0) → timesIn x ≤ 1
+      go : Dec (timesAmong x ≡ 0) → timesAmong x ≤ 1
       go (yes z) = omega arith
       go (no z) = by (some-term f (length ids) (omega arith))

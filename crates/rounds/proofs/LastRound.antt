@@ -1,11 +1,12 @@
 -- Every fair contest comes to its last round. Assumes nothing.
 use mathlib.Core.Path.{_≡_, ap, subst, _∙_}
-use mathlib.Core.Logic.{_≢_}
-use Prim.Native.Nat.{ℕ, zero, suc, _+_, _≤_, _<_}
+use mathlib.Core.Logic.{_⊎_, inl, inr, _≢_}
+use Prim.Native.Nat.{ℕ, suc, _+_, _≤_, _<_}
 use native.Mathlib.Decide.{ℕ-discrete}
 use native.Mathlib.Omega.{arith}
 use borrow.Author.Tests.{eq-eqb, ne-eqb}
 use lib.Dec.{eqb}
+use Rattle.ring.proofs.Counting.{must-end}
 use Rattle.ring.proofs.Scans.{first-is}
 use Rattle.ring.proofs.Sums.{term-within, one-term}
 use Rattle.rounds.specs.Seats.{holds, isHolding}
@@ -21,12 +22,14 @@ module _ (K : Contest) (top : ℕ) (F : Fair K top) where
   record Undecided (r : ℕ) : Type 0 where
     some : 1 ≤ timesIn K top r
     earlier : (s : ℕ) → s < r → holdingIn K s ≢ 1
+    room : holdingIn K r + r ≤ K .size
 
   next-undecided : (r : ℕ) → Undecided r → holdingIn K r ≢ 1 → Undecided (suc r)
   next-undecided r at more =
       record {
         some = top-next K top F r (at .some) (omega (arith, times-within K top r));
         earlier = λ s l. go s l (ℕ-discrete s r);
+        room = omega (arith, fewer-next K top F r (at .some));
       }
     where
       go : (s : ℕ) → s < suc r → Dec (s ≡ r) → holdingIn K s ≢ 1
@@ -40,21 +43,22 @@ module _ (K : Contest) (top : ℕ) (F : Fair K top) where
     left : holdingIn K round ≡ 1
     at : Undecided round
 
-  -- from round r on, where at most k hold a value: each round has fewer
-  find : (k r : ℕ) → holdingIn K r ≤ k → k + r ≤ K .size → Undecided r → Found
-  find zero r few room at = absurd (omega (arith, times-within K top r))
-  find (suc k) r few room at =
-      let fewer = fewer-next K top F r (at .some) in
-      go (ℕ-discrete (holdingIn K r) 1) (λ more. find k (suc r) (omega arith) (omega arith) (next-undecided r at more))
+  found-or-next : (r : ℕ) → Undecided r → Found ⊎ Undecided (suc r)
+  found-or-next r at = go (ℕ-discrete (holdingIn K r) 1)
     where
-      go : Dec (holdingIn K r ≡ 1) → (holdingIn K r ≢ 1 → Found) → Found
-      go (yes one) later = record { round = r; small = omega arith; left = one; at = at }
-      go (no more) later = later more
+      go : Dec (holdingIn K r ≡ 1) → Found ⊎ Undecided (suc r)
+      go (yes one) = inl (record { round = r; small = omega (arith, at .room); left = one; at = at })
+      go (no more) = inr (next-undecided r at more)
 
+  -- each round has fewer, so there are no more rounds than seats
   found : Found
   found =
-      find (K .size) 0 (omega (arith, all-hold K)) (omega arith)
-      (record { some = F .among; earlier = λ s l. absurd (omega arith) })
+      must-end Undecided Found (K .size) (λ r at. omega (arith, at .room)) found-or-next 0
+      (record {
+        some = F .among;
+        earlier = λ s l. absurd (omega arith);
+        room = omega (arith, all-hold K);
+      })
 
   -- its number
   abbrev last : ℕ
