@@ -46,9 +46,9 @@ word-stored s o v t a b c d h q e = by-four P stored s h
     stored : (a b c d : ℕ) (r : List ℕ) → P (a ∷ b ∷ c ∷ d ∷ r)
     stored w x y z r = ap (λ l. l ++ r) (e ∙ ap (digits wordBytes) q ∙ digits-turned o wordBytes v)
 
--- what is lent of a list from its second element on
-pub lent-rest : (s : List ℕ) → take (length s - 1) (drop 1 s) ≡ drop 1 s
-lent-rest s = take-all (length s - 1) (drop 1 s) (omega (arith, length-drop 1 s))
+-- what is lent of a list from a place on
+pub lent-rest : (at : ℕ) (s : List ℕ) → take (length s - at) (drop at s) ≡ drop at s
+lent-rest at s = take-all (length s - at) (drop at s) (omega (arith, length-drop at s))
 
 -- the first byte stored, and a field put into what is lent of the rest
 pub rest-put : (s q : List ℕ) (h : ℕ) (o : Order) (v : ℕ) → 1 ≤ length s →

@@ -3,13 +3,18 @@ use Prim.Native.Nat.{ℕ}
 use mathlib.Core.Path.{_≡_, sym, ap, _∙_}
 use mathlib.Core.List.{List}
 use Rattle.refusal.specs.declared.Answer.{Answer}
+use Rattle.wire.specs.declared.Head.{Head}
 use Rattle.wire.specs.declared.Reading.{Reading}
 use Rattle.wire.specs.declared.ReadTold.{ReadTold}
-use Rattle.wire.specs.Frames.{readOf, readTold, writeOf}
+use Rattle.wire.specs.Frames.{headOf, readOf, readTold, writeOf}
 
 -- the answer of `frame::read`; it is lent nothing that it could change
 pub read-settled : (s : List ℕ) (x y : Reading) → x ≡ readOf s → y ≡ readOf s → x ≡ y
 read-settled s x y a b = cc
+
+-- the answer of `frame::head_of`
+pub head-settled : (b : ℕ) (x y : Head) → x ≡ headOf b → y ≡ headOf b → x ≡ y
+head-settled b x y a c = cc
 
 pub told-settled : (r : Reading) (x y : ReadTold) → x ≡ readTold r → y ≡ readTold r → x ≡ y
 told-settled r x y a b = cc

@@ -43,7 +43,7 @@ fn kind_guess(byte: u8) -> Kind
 }
 
 // What a byte says as a kind byte.
-pub(crate) fn head_of(byte: u8) -> Head
+pub fn head_of(byte: u8) -> Head
     ensures { λ r. ⌜ r ≡ headOf byte ⌝ }
 {
     let order = order_guess(byte);

@@ -12,8 +12,10 @@ ghost use Rattle.wire.specs.Frames.{readOf, readTold, writeOf};
 mod body;
 mod kinds;
 
+pub use kinds::head_of;
+
 // The bytes of a frame: its kind byte, and a body of four.
-const FRAME: usize = 5;
+pub const FRAME: usize = 5;
 
 // Reads the frame that bytes begins with: refused 11 without a byte, 12 at an unknown kind byte, 13 under five bytes.
 // What follows the frame is not looked at.

@@ -11,78 +11,45 @@ const LENGTHS: usize = 8;
 // The largest 32-bit number.
 const LAST: u32 = 4294967295;
 
-fn say(text: &[u8]) {
-    io::write_all(1, text);
-}
-
-fn wide(n: u32) -> u64 {
-    n as u64
-}
-
-fn byte_wide(b: u8) -> u64 {
-    b as u64
-}
-
-fn say_number(n: u32) {
-    say(b" ");
-    io::print_decimal(1, wide(n));
-}
-
-fn say_count(n: usize) {
-    say(b" ");
-    io::print_decimal(1, n as u64);
-}
-
-fn say_byte(b: u8) {
-    say(b" ");
-    io::print_hex(1, byte_wide(b), 2);
-}
-
-fn say_bytes(bytes: &[u8]) {
-    for i in 0..bytes.len() {
-        say_byte(bytes[i]);
-    }
-}
-
 // Number and place of a write's answer, and the bytes that it left.
 fn say_answer(a: Answer, bytes: &[u8]) {
     let t = refusal::answered(a);
-    say_number(t.number);
-    say_number(t.place);
-    say(b",");
-    say_bytes(bytes);
-    say(b"\n");
+    say::number(t.number);
+    say::number(t.place);
+    say::text(b",");
+    say::bytes(bytes);
+    say::text(b"\n");
 }
 
 // Number, place, kind and value of what bytes read as.
 fn say_reading(bytes: &[u8]) {
     let t = frame::told(frame::read(bytes));
-    say_number(t.number);
-    say_number(t.place);
-    say_number(t.kind);
-    say_number(t.value);
-    say(b"\n");
+    say::number(t.number);
+    say::number(t.place);
+    say::number(t.kind);
+    say::number(t.value);
+    say::text(b"\n");
 }
 
 // A write into so many bytes of out.
 fn write_in(out: &mut [u8], room: usize, generation: u32, kind: u32, value: u32) {
     if room <= out.len() {
         let a = frame::write(&mut out[..room], generation, kind, value);
-        say(b"room");
-        say_count(room);
-        say(b":");
+        say::text(b"room");
+        say::count(room);
+        say::text(b":");
         say_answer(a, out);
     }
 }
 
 fn say_asked(generation: u32, kind: u32, value: u32) {
-    say(b"generation");
-    say_number(generation);
-    say(b" kind");
-    say_number(kind);
-    say(b" value");
-    say_number(value);
-    say(b"\n");
+    say::text(b"generation");
+    say::number(generation);
+    say::text(b" kind");
+    say::number(kind);
+    say::text(b" value");
+    say::number(value);
+    say::text(b"\n");
 }
 
 fn write_in_every_room(generation: u32, kind: u32, value: u32) {
@@ -95,9 +62,9 @@ fn write_in_every_room(generation: u32, kind: u32, value: u32) {
 // A reading of so many bytes.
 fn read_of(length: usize, bytes: &[u8]) {
     if length <= bytes.len() {
-        say(b"length");
-        say_count(length);
-        say(b":");
+        say::text(b"length");
+        say::count(length);
+        say::text(b":");
         say_reading(&bytes[..length]);
     }
 }
@@ -142,11 +109,11 @@ fn no_kind(generation: u32) {
 
 // A byte as a kind byte, with a body behind it, and alone.
 fn as_kind_byte(byte: u8) {
-    say(b"kind byte");
-    say_byte(byte);
-    say(b":");
+    say::text(b"kind byte");
+    say::byte(byte);
+    say::text(b":");
     say_reading(&[byte, 0, 0, 1, 2]);
-    say(b"alone:");
+    say::text(b"alone:");
     say_reading(&[byte]);
 }
 

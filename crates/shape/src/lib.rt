@@ -11,10 +11,14 @@ pub mod places;
 mod records;
 
 // The most processes of a ring.
-const MOST_PROCESSES: usize = 16;
+pub const MOST_PROCESSES: usize = 16;
 
 // The most messages of a queue.
-const MOST_CAPACITY: u32 = 16;
+pub const MOST_CAPACITY: u32 = 16;
+
+// The words of the largest table.
+pub const MOST_WORDS: usize = places::TABLE_HEAD
+    + MOST_PROCESSES * (places::RECORD_HEAD + places::SLOT * (MOST_CAPACITY as usize));
 
 // The words of a record, at capacity c.
 pub fn width(c: u32) -> usize

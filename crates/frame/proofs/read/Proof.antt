@@ -33,7 +33,7 @@ returns-4 c =
     read-whole (named .0 .0) (named .0 .1 .0) s _
     (sym (c .before .before .before .before .before .before .head-of .ensures) ∙ named .1)
     (c .before .before .if2 .left)
-    (c .word .ensures ∙ ap (λ l. valueOf (named .0 .0) (take wordBytes l)) (lent-rest s))
+    (c .word .ensures ∙ ap (λ l. valueOf (named .0 .0) (take wordBytes l)) (lent-rest 1 s))
 
 pub read-spec : {M : Type 1} → statement M
 read-spec =

@@ -1,8 +1,8 @@
--- `frame_run::say_bytes` is safe and ends: each turn leaves a byte fewer. Assumes nothing.
+-- `say::bytes` is safe and ends: each turn leaves a byte fewer. Assumes nothing.
 use Prim.Native.Nat.{_-_}
 use native.Mathlib.Omega.{arith}
-use Rattle.frame_run.proofs.say_bytes.Statement.{statement}
-use Rattle.frame_run.proofs.say_bytes.Tie as tie
+use Rattle.say.proofs.bytes.Statement.{statement}
+use Rattle.say.proofs.bytes.Tie as tie
 
 abbrev Inv-loop : tie.InvT-loop
 Inv-loop bytes i₀ i-end i = Unit {0}
@@ -10,8 +10,8 @@ Inv-loop bytes i₀ i-end i = Unit {0}
 abbrev μ-loop : tie.MeasureT-loop
 μ-loop bytes i₀ i-end i = i-end - i
 
-pub say-bytes-spec : {M : Type 1} → statement M
-say-bytes-spec =
+pub bytes-spec : {M : Type 1} → statement M
+bytes-spec =
     tie.close
     (tie.spec
     Inv-loop

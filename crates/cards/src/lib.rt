@@ -1,1 +1,0 @@
-// The bench cards of document 01 that are marked P.

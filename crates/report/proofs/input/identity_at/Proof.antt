@@ -1,0 +1,35 @@
+-- `report::input::identity_at` answers what frame i reads as. Assumes nothing.
+use Prim.Native.Nat.{_+_, _*_}
+use mathlib.Core.Path.{ap, _∙_}
+use native.Mathlib.Omega.{arith}
+use borrow.Author.Needs.{needs}
+use lib.ListN.{drop, length-drop}
+use Rattle.trial.specs.Input.{identityOf}
+use Rattle.frame.proofs.Bodies.{lent-rest}
+use Rattle.report.proofs.Asking.{identity-none}
+use Rattle.report.proofs.input.identity_at.Statement.{statement}
+use Rattle.report.proofs.input.identity_at.Tie as tie
+
+returns : tie.Need-returns
+returns c =
+    let a = c .before .before .args in
+    identity-none (drop (2 + a .i * 5) (a .input .now))
+    (length-drop (2 + a .i * 5) (a .input .now) ∙ omega (arith, c .if1 .taken))
+
+returns-2 : tie.Need-returns-2
+returns-2 c =
+    let a = c .before .before .before .before .args in
+    c .identity .ensures ∙ ap identityOf (lent-rest (2 + a .i * 5) (a .input .now))
+
+pub identity-at-spec : {M : Type 1} → statement M
+identity-at-spec =
+    tie.close
+    (tie.spec
+    (λ c. search needs)
+    (λ c. search needs)
+    returns
+    (λ c. search needs)
+    (λ c. search needs)
+    (λ c. search needs)
+    (λ c κs. search needs)
+    returns-2)

@@ -1,0 +1,54 @@
+-- `report::run::state_at` gives the state word of a process. Assumes nothing.
+use Prim.Native.Nat.{ℕ, _+_, _*_, _≤_, _^_}
+use mathlib.Core.Path.{ap}
+use native.Mathlib.Omega.{arith}
+use borrow.Author.Needs.{needs}
+use lib.ListN.{length, getD}
+use Rattle.report.proofs.Tracing.{place-small, state-past}
+use Rattle.report.proofs.run.state_at.Statement.{statement}
+use Rattle.report.proofs.run.state_at.Tie as tie
+use Rattle.report.proofs.run.state_at.Reads as reads
+use Rattle.report.proofs.run.state_at.Lts as lts
+use Rattle.shape.proofs.width.Reads as width
+
+returns : tie.Need-returns
+returns c =
+    let a = c .before .before .args in
+    state-past (a .table .now) (a .j) (omega (arith, c .if1 .taken))
+
+-- the record's place is far below what its type holds
+small : (c : lts.After-width (width.Asked, width.Learnt) reads.Pre reads.Post) →
+    c .before .before .before .before .args .j * c .width .result ≤ 255 * (6 + 2 * 2 ^ 32)
+small c =
+    let start = c .before .before .before .before in
+    place-small (start .args .j) (getD (start .args .table .now) 1 0) (c .width .result) (omega (arith, start .fits .j))
+    (omega (arith, c .before .shared-slice-known2 .given 1 .fits))
+    (c .width .ensures)
+
+returns-2 : tie.Need-returns-2
+returns-2 c =
+    let a = c .before .before .before .before .before .args in
+    let w = c .before .width in
+    let past : length (a .table .now) ≤ 2 + a .j * w .result + 1 = omega (arith, c .if2 .taken) in
+    state-past (a .table .now) (a .j) (rw (w .ensures) at past)
+
+returns-3 : tie.Need-returns-3
+returns-3 c =
+    let c2 = c .before .before in
+    let a = c2 .before .before .before .before .args in
+    ap (λ (w : ℕ). getD (a .table .now) (2 + a .j * w + 1) 0) (c2 .width .ensures)
+
+pub state-at-spec : {M : Type 1} → statement M
+state-at-spec =
+    tie.close
+    (tie.spec
+    returns
+    (λ c. search needs)
+    (λ c κs. search needs)
+    (λ c. record { fits = omega (arith, small c) })
+    (λ c. record { fits = omega (arith, small c) })
+    (λ c. record { fits = omega (arith, small c) })
+    returns-2
+    (λ c. search needs)
+    (λ c. search needs)
+    returns-3)

@@ -1,0 +1,88 @@
+-- Numbers in decimal: one digit more, and how many there are. Assumes nothing.
+use Prim.Native.Nat.{ℕ, zero, suc, _+_, _/_, _%_, _^_, _≤_, _<_}
+use mathlib.Core.Path.{_≡_, refl, sym, ap, _∙_}
+use mathlib.Core.List.{List, [], _∷_, _++_}
+use native.Mathlib.Nat.{div-add-mod, pow-suc}
+use native.Mathlib.Decide.{ℕ-discrete}
+use native.Mathlib.Omega.{arith}
+use lib.ListN.{length, length-append}
+use borrow.Author.Tests.{ne-eqb}
+use Rattle.trial.specs.Text.{digit, digitsIn, decimal}
+
+-- a tenth of a number that is not 0 is less
+tenth-less : (n : ℕ) → 0 < n → n / 10 < n
+tenth-less n some = omega (arith, div-add-mod n 10)
+
+-- the digits of n, and none of 0
+abbrev pub digitsOf : ℕ → List ℕ
+digitsOf n = digitsIn n n
+
+-- of 0 there is none, whatever the bound,
+none-of-zero : (f : ℕ) → digitsIn f 0 ≡ []
+unfolding digitsIn
+none-of-zero zero = refl
+none-of-zero (suc f) = refl
+
+-- and of no number within none
+none-within : (n : ℕ) → digitsIn zero n ≡ []
+unfolding digitsIn
+none-within n = refl
+
+-- of another number one more than of a tenth of it
+one-more-in : (f n : ℕ) → 0 < n → digitsIn (suc f) n ≡ digitsIn f (n / 10) ++ (digit (n % 10) ∷ [])
+unfolding digitsIn
+one-more-in f n some = rw (ne-eqb n 0 (λ e. omega (arith, e, some)))
+
+-- the bound does not matter where it is large enough
+bound-same : (f g n : ℕ) → n ≤ f → n ≤ g → digitsIn f n ≡ digitsIn g n
+bound-same zero g zero a b = none-within 0 ∙ sym (none-of-zero g)
+bound-same (suc f) zero zero a b = none-of-zero (suc f) ∙ sym (none-within 0)
+bound-same (suc f) (suc g) zero a b = none-of-zero (suc f) ∙ sym (none-of-zero (suc g))
+bound-same (suc f) (suc g) (suc n) a b =
+    one-more-in f (suc n) (omega arith)
+    ∙ ap (λ (l : List ℕ). l ++ (digit (suc n % 10) ∷ []))
+    (bound-same f g (suc n / 10) (omega (arith, a, tenth-less (suc n) (omega arith)))
+    (omega (arith, b, tenth-less (suc n) (omega arith))))
+    ∙ sym (one-more-in g (suc n) (omega arith))
+bound-same zero g (suc n) a b = absurd (omega (arith, a))
+bound-same (suc f) zero (suc n) a b = absurd (omega (arith, b))
+
+pub digits-none : digitsOf 0 ≡ []
+digits-none = none-of-zero 0
+
+pub digits-more : (n : ℕ) → 0 < n → digitsOf n ≡ digitsOf (n / 10) ++ (digit (n % 10) ∷ [])
+digits-more zero some = absurd (omega (arith, some))
+digits-more (suc n) some =
+    one-more-in n (suc n) some
+    ∙ ap (λ (l : List ℕ). l ++ (digit (suc n % 10) ∷ []))
+    (bound-same n (suc n / 10) (suc n / 10) (omega (arith, tenth-less (suc n) some)) (omega arith))
+
+pub decimal-is : (n : ℕ) → decimal n ≡ digitsOf (n / 10) ++ (digit (n % 10) ∷ [])
+decimal-is n =
+    ap (λ (l : List ℕ). l ++ (digit (n % 10) ∷ []))
+    (bound-same n (n / 10) (n / 10) (omega (arith, div-add-mod n 10)) (omega arith))
+
+-- a number below 10 ^ k has at most k digits
+digits-few : (k f n : ℕ) → n < 10 ^ k → length (digitsIn f n) ≤ k
+digits-few k zero n below = rw (none-within n) (omega arith)
+digits-few k (suc f) n below = go (λ k less. digits-few k f (n / 10) less) k (ℕ-discrete n 0) below
+  where
+    go : ((k : ℕ) → n / 10 < 10 ^ k → length (digitsIn f (n / 10)) ≤ k) →
+        (k : ℕ) → Dec (n ≡ 0) → n < 10 ^ k → length (digitsIn (suc f) n) ≤ k
+    go few k (yes e) below = rw (e, none-of-zero (suc f)) (omega arith)
+    go few zero (no some) below = absurd (some (omega (arith, below)))
+    go few (suc k) (no some) below =
+        let less : n / 10 < 10 ^ k = omega (arith, rw pow-suc at below) in
+        rw (
+          one-more-in f n (omega (arith, some)),
+          length-append (digitsIn f (n / 10)) (digit (n % 10) ∷ []),
+        )
+        (omega (arith, few k less))
+
+-- and a tenth of it one less
+pub decimal-few : (k n : ℕ) → n < 10 ^ suc k → length (digitsOf (n / 10)) ≤ k
+decimal-few k n below = digits-few k (n / 10) (n / 10) (omega (arith, rw pow-suc at below))
+
+pub decimal-short : (k n : ℕ) → n < 10 ^ suc k → length (decimal n) ≤ suc k
+decimal-short k n below =
+    rw (decimal-is n, length-append (digitsOf (n / 10)) (digit (n % 10) ∷ [])) (omega (arith, decimal-few k n below))
