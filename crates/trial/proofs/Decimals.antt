@@ -1,5 +1,5 @@
 -- Numbers in decimal: one digit more, and how many there are. Assumes nothing.
-use Prim.Native.Nat.{ℕ, zero, suc, _+_, _/_, _%_, _^_, _≤_, _<_}
+use Prim.Native.Nat.{ℕ, zero, suc, _+_, _*_, _-_, _/_, _%_, _^_, _≤_, _<_}
 use mathlib.Core.Path.{_≡_, refl, sym, ap, _∙_}
 use mathlib.Core.List.{List, [], _∷_, _++_}
 use native.Mathlib.Nat.{div-add-mod, pow-suc}
@@ -86,3 +86,33 @@ decimal-few k n below = digits-few k (n / 10) (n / 10) (omega (arith, rw pow-suc
 pub decimal-short : (k n : ℕ) → n < 10 ^ suc k → length (decimal n) ≤ suc k
 decimal-short k n below =
     rw (decimal-is n, length-append (digitsOf (n / 10)) (digit (n % 10) ∷ [])) (omega (arith, decimal-few k n below))
+
+-- the number that digits say, behind those that say a
+abbrev said : ℕ → List ℕ → ℕ
+said a [] = a
+said a (b ∷ l) = said (a * 10 + (b - digit 0)) l
+
+said-last : (a : ℕ) (l : List ℕ) (d : ℕ) → said a (l ++ (digit d ∷ [])) ≡ said a l * 10 + d
+said-last a [] d = omega arith
+said-last a (b ∷ l) d = said-last (a * 10 + (b - digit 0)) l d
+
+said-back : (f n : ℕ) → n ≤ f → said 0 (digitsIn f n) ≡ n
+said-back zero n few = rw (none-within n) (omega (arith, few))
+said-back (suc f) n few = go (said-back f (n / 10)) (ℕ-discrete n 0)
+  where
+    go : (n / 10 ≤ f → said 0 (digitsIn f (n / 10)) ≡ n / 10) → Dec (n ≡ 0) → said 0 (digitsIn (suc f) n) ≡ n
+    go back (yes e) = rw (e, none-of-zero (suc f))
+    go back (no some) =
+        let less = tenth-less n (omega (arith, some)) in
+        rw (
+          one-more-in f n (omega (arith, some)),
+          said-last 0 (digitsIn f (n / 10)) (n % 10),
+          back (omega (arith, less, few)),
+        )
+        (omega (arith, div-add-mod n 10))
+
+-- a number is what its digits say, so that no two have one text
+pub decimal-back : (n : ℕ) → said 0 (decimal n) ≡ n
+decimal-back n =
+    said-last 0 (digitsIn n (n / 10)) (n % 10)
+    ∙ rw (said-back n (n / 10) (omega (arith, div-add-mod n 10))) (omega (arith, div-add-mod n 10))

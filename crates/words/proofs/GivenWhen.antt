@@ -137,10 +137,14 @@ pub record Leads (t : List ℕ) (a : LeadTold) : Type 0 where
   pub only : OnlyMalformed t (a .number) (a .place)
   pub zeros : a .number ≡ 5 → (a .found ≡ 0) × (a .process ≡ 0) × (a .value ≡ 0)
 
--- an answer that has its number's reason, and tells n for the reason of n, tells n exactly for that reason
-exactly : (Why : ℕ → Type 0) (a : Told) → Why (a .number) → (n p : ℕ) → (Why n → a ≡ tell n p) →
+-- a number that has its reason, and is n for the reason of n, is n exactly for that reason
+pub exactly : (Why : ℕ → Type 0) (a : ℕ) → Why a → (n : ℕ) → (Why n → a ≡ n) → (a ≡ n) ↔ Why n
+exactly Why a why n f = (λ e. subst Why e why, f)
+
+-- and so is an answer's
+told-exactly : (Why : ℕ → Type 0) (a : Told) → Why (a .number) → (n p : ℕ) → (Why n → a ≡ tell n p) →
     (a .number ≡ n) ↔ Why n
-exactly Why a why n p f = (λ e. subst Why e why, λ w. ap (λ (b : Told). b .number) (f w))
+told-exactly Why a why n p f = exactly Why (a .number) why n (λ w. ap (λ (b : Told). b .number) (f w))
 
 module _ (t ids : List ℕ) (c : ℕ) where
   abbrev startTold : Told
@@ -186,11 +190,11 @@ module _ (t ids : List ℕ) (c : ℕ) where
   start-exactly =
       let why = start-given .0 in
       record {
-        one = exactly StartWhy startTold why 1 0 (start-count t ids c);
-        two = exactly StartWhy startTold why 2 0 (start-capacity t ids c);
-        three = exactly StartWhy startTold why 3 0 (start-short t ids c);
-        four = exactly StartWhy startTold why 4 _ (start-repeated t ids c);
-        done = exactly StartWhy startTold why 0 0 (start-done t ids c);
+        one = told-exactly StartWhy startTold why 1 0 (start-count t ids c);
+        two = told-exactly StartWhy startTold why 2 0 (start-capacity t ids c);
+        three = told-exactly StartWhy startTold why 3 0 (start-short t ids c);
+        four = told-exactly StartWhy startTold why 4 _ (start-repeated t ids c);
+        done = told-exactly StartWhy startTold why 0 0 (start-done t ids c);
         at-four =
             λ e. let w : StartWhy 4 = subst StartWhy e why in
             let l = undistinct-repeated ids (w .3) in
@@ -255,13 +259,13 @@ module _ (t : List ℕ) (j : ℕ) where
       let why = step-given .0 in
       let placed = step-given .1 in
       record {
-        five = exactly StepWhy stepTold why 5 0 (step-malformed t j);
-        six = exactly StepWhy stepTold why 6 _ (step-none t j);
-        seven = exactly StepWhy stepTold why 7 j (step-empty t j);
-        eight = exactly StepWhy stepTold why 8 j (step-full t j);
-        nine = exactly StepWhy stepTold why 9 j (step-wrong t j);
-        ten = exactly StepWhy stepTold why 10 j (step-over t j);
-        done = exactly StepWhy stepTold why 0 0 (step-made t j);
+        five = told-exactly StepWhy stepTold why 5 0 (step-malformed t j);
+        six = told-exactly StepWhy stepTold why 6 _ (step-none t j);
+        seven = told-exactly StepWhy stepTold why 7 j (step-empty t j);
+        eight = told-exactly StepWhy stepTold why 8 j (step-full t j);
+        nine = told-exactly StepWhy stepTold why 9 j (step-wrong t j);
+        ten = told-exactly StepWhy stepTold why 10 j (step-over t j);
+        done = told-exactly StepWhy stepTold why 0 0 (step-made t j);
         at-six = placed .0;
         at-others = placed .1;
         no-place = placed .2;

@@ -1,7 +1,7 @@
 -- `report::text` puts the whole text of an input. Assumes nothing.
 use mathlib.Core.Path.{sym, _∙_}
 use borrow.Author.Needs.{needs}
-use Rattle.report.proofs.Asking.{asked-few}
+use Rattle.trial.proofs.Asking.{asked-ring}
 use Rattle.report.proofs.Texts.{refused-whole, ring-whole}
 use Rattle.report.proofs.text.Statement.{statement}
 use Rattle.report.proofs.text.Tie as tie
@@ -9,7 +9,10 @@ use Rattle.report.proofs.text.Tie as tie
 ring-requires : tie.Need-ring-requires
 ring-requires c κs =
     let c4 = c .before .before .before .before in
-    asked-few (c4 .before .before .args .input .now) _ _ (sym (c4 .asked .ensures) ∙ c .before .before .n .given .1)
+    asked-ring (c4 .before .before .args .input .now) _ _ (sym (c4 .asked .ensures) ∙ c .before .before .n .given .1)
+    .0
+    .0
+    .1
 
 returns : tie.Need-returns
 returns c =

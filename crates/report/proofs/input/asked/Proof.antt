@@ -2,7 +2,9 @@
 use mathlib.Core.Path.{sym, _∙_}
 use native.Mathlib.Omega.{arith}
 use borrow.Author.Needs.{needs}
-use Rattle.report.proofs.Asking.{sized-few, asked-short, asked-unsized, asked-badly, asked-well}
+use Rattle.table.proofs.Answers.{size-fits}
+use Rattle.trial.specs.Input.{countIn, capacityIn}
+use Rattle.trial.proofs.Asking.{asked-short, asked-unsized, asked-badly, asked-well}
 use Rattle.report.proofs.input.asked.Statement.{statement}
 use Rattle.report.proofs.input.asked.Tie as tie
 
@@ -18,7 +20,7 @@ cast-c c = omega (arith, c .shared-slice-known3 .given 1 .fits)
 frames-requires : tie.Need-frames-requires
 frames-requires c κs =
     let s = c .before .before .before .before .before .before .before .args .input .now in
-    sized-few s _ (sym (c .before .before .size .ensures) ∙ c .enum-told .given .1)
+    size-fits (countIn s) (capacityIn s) _ (sym (c .before .before .size .ensures) ∙ c .enum-told .given .1) .0
 
 returns-2 : tie.Need-returns-2
 returns-2 c =

@@ -7,7 +7,7 @@ use borrow.Author.Needs.{needs}
 use Rattle.ring.specs.Scan.{allBelow}
 use Rattle.ring.proofs.Scans.{all-at, all-more}
 use Rattle.trial.specs.Input.{identityAt}
-use Rattle.report.proofs.Asking.{isRead, read-is, first-refused, none-refused}
+use Rattle.trial.proofs.Asking.{isRead, read-is, first-refused, none-refused}
 use Rattle.report.proofs.input.frames.Statement.{statement}
 use Rattle.report.proofs.input.frames.Tie as tie
 

@@ -1,7 +1,7 @@
 -- `report::input::identity` answers what bytes read as where an identity is to stand. Assumes nothing.
 use mathlib.Core.Path.{_∙_}
 use borrow.Author.Needs.{needs}
-use Rattle.report.proofs.Asking.{identity-none, identity-unknown, identity-active, identity-passive}
+use Rattle.report.proofs.Identity.{identity-none, identity-unknown, identity-active, identity-passive}
 use Rattle.report.proofs.input.identity.Statement.{statement}
 use Rattle.report.proofs.input.identity.Tie as tie
 

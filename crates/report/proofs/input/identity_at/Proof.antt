@@ -6,7 +6,7 @@ use borrow.Author.Needs.{needs}
 use lib.ListN.{drop, length-drop}
 use Rattle.trial.specs.Input.{identityOf}
 use Rattle.frame.proofs.Bodies.{lent-rest}
-use Rattle.report.proofs.Asking.{identity-none}
+use Rattle.report.proofs.Identity.{identity-none}
 use Rattle.report.proofs.input.identity_at.Statement.{statement}
 use Rattle.report.proofs.input.identity_at.Tie as tie
 

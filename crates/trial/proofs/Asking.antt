@@ -1,59 +1,32 @@
--- What the frames of an input answer, frame by frame. Assumes nothing.
-use Prim.Native.Nat.{ℕ, zero, suc, _-_, _≤_, _<_}
-use mathlib.Core.Path.{_≡_, refl, sym, ap, _∙_}
+-- What an input asks for: by the header's length, then its numbers, then the frames in order. Assumes nothing.
+use Prim.Native.Nat.{ℕ, zero, suc, _≤_, _<_}
+use mathlib.Core.Path.{_≡_, refl, sym, ap, ap₂, _∙_}
 use mathlib.Core.Bool.{Bool, true, false, true≢false, cond}
-use mathlib.Core.List.{List, [], _∷_}
+use mathlib.Core.List.{List}
 use native.Mathlib.Omega.{arith}
 use borrow.Author.Tests.{lt-ltb, le-ltb}
 use lib.Dec.{ltb}
-use lib.ListN.{length, getD}
-use Rattle.gateway.specs.declared.Kind.{Kind}
-use Rattle.gateway.specs.declared.Kind.the-variants.{Passive, Active}
+use lib.ListN.{length}
 use Rattle.gateway.specs.declared.Msg.{Msg}
 use Rattle.refusal.specs.declared.Refusal.{Refusal}
-use Rattle.refusal.specs.declared.Refusal.the-variants.{NoByte, UnknownKind}
+use Rattle.refusal.specs.declared.Refusal.the-variants.{NoByte}
 use Rattle.refusal.specs.declared.Answer.{Answer}
 use Rattle.refusal.specs.declared.Answer.the-variants as Answer
-use Rattle.wire.specs.declared.Order.{Order}
-use Rattle.wire.specs.declared.Head.{Head}
-use Rattle.wire.specs.declared.Head.the-variants.{Frame, NoHead}
+use Rattle.ring.proofs.Tests.{and-left, and-right}
 use Rattle.wire.specs.declared.Reading.{Reading}
 use Rattle.wire.specs.declared.Reading.the-variants.{Message, Refused}
-use Rattle.wire.specs.Frames.{headOf, readOf}
 use Rattle.words.specs.declared.Size.{Size}
 use Rattle.words.specs.declared.Size.the-variants as Size
-use Rattle.words.specs.Layout.{mostProcesses}
+use Rattle.words.specs.Layout.{mostProcesses, mostCapacity}
+use Rattle.words.specs.WellFormed.{inRange}
 use Rattle.words.specs.Outcomes.{sizeOf}
-use Rattle.table.proofs.Answers.{size-fits}
+use Rattle.words.proofs.Ranges.{Within, range-is}
+use Rattle.words.proofs.Sizes.{words-in}
 use Rattle.trial.specs.declared.Asked.{Asked}
 use Rattle.trial.specs.declared.Asked.the-variants as Asked
-use Rattle.trial.specs.Input.{
-  headerLength,
-  countIn,
-  capacityIn,
-  identityAs,
-  identityOf,
-  identityAt,
-  unless,
-  inTurn,
-  askedBy,
-  askedOf,
-}
+use Rattle.trial.specs.Input.{headerLength, countIn, capacityIn, identityAt, unless, inTurn, askedBy, askedOf}
 
-pub identity-none : (s : List ℕ) → length s ≡ 0 → Refused NoByte ≡ identityOf s
-identity-none [] e = refl
-identity-none (b ∷ l) e = absurd (let y : _≡_ {A = ℕ} 0 1 = omega (arith, e) in omega (arith, y))
-
-module _ (s : List ℕ) (h : Head) (named : h ≡ headOf (getD s 0 0)) where
-  pub identity-unknown : h ≡ NoHead → readOf s ≡ identityOf s
-  identity-unknown e = ap (λ x. identityAs x s) (sym e ∙ named)
-
-  module _ (o : Order) (k : Kind) (frame : h ≡ Frame o k) where
-    pub identity-active : k ≡ Active → readOf s ≡ identityOf s
-    identity-active e = ap (λ x. identityAs (Frame o x) s) (sym e) ∙ ap (λ x. identityAs x s) (sym frame ∙ named)
-
-    pub identity-passive : k ≡ Passive → Refused UnknownKind ≡ identityOf s
-    identity-passive e = ap (λ x. identityAs (Frame o x) s) (sym e) ∙ ap (λ x. identityAs x s) (sym frame ∙ named)
+-- frames in order --
 
 -- the frame was read
 abbrev pub isRead : Reading → Bool
@@ -68,6 +41,7 @@ unless-read : (r : Reading) (later : Answer) → isRead r ≡ true → unless r 
 unless-read (Message m) later e = refl
 unless-read (Refused x) later e = absurd (true≢false (sym e))
 
+-- the first that is refused decides
 pub first-refused : (n : ℕ) (f : ℕ → Reading) (i : ℕ) (x : Refusal) → i < n →
     ((k : ℕ) → k < i → isRead (f k) ≡ true) → f i ≡ Refused x → Answer.Refused x ≡ inTurn n f
 first-refused zero f i x below read e = absurd (omega (arith, below))
@@ -76,14 +50,20 @@ first-refused (suc n) f (suc i) x below read e =
     first-refused n (λ k. f (suc k)) i x (omega (arith, below)) (λ k b. read (suc k) (omega (arith, b))) e
     ∙ sym (unless-read (f 0) _ (read 0 (omega arith)))
 
+-- none is refused
 pub none-refused : (n : ℕ) (f : ℕ → Reading) → ((k : ℕ) → k < n → isRead (f k) ≡ true) → Answer.Done ≡ inTurn n f
 none-refused zero f read = refl
 none-refused (suc n) f read =
     none-refused n (λ k. f (suc k)) (λ k b. read (suc k) (omega (arith, b)))
     ∙ sym (unless-read (f 0) _ (read 0 (omega arith)))
 
--- what an input asks for --
+-- the whole input --
 
+-- what n, c and the frames ask for
+abbrev pub askedFrom : ℕ → ℕ → List ℕ → Asked
+askedFrom n c s = askedBy (sizeOf n c) (inTurn n (identityAt s)) n c
+
+-- a header byte is missing
 pub asked-short : (s : List ℕ) → length s < headerLength → Asked.Refused NoByte ≡ askedOf s
 unfolding askedOf
 asked-short s short = rw (lt-ltb _ _ short)
@@ -95,38 +75,48 @@ module _ (s : List ℕ) where
   abbrev c : ℕ
   c = capacityIn s
 
-  pub sized-few : (w : ℕ) → sizeOf n c ≡ Size.Words w → n ≤ mostProcesses
-  sized-few w e = size-fits n c w e .0
-
   module _ (long : headerLength ≤ length s) where
     -- the header's numbers decide, then the frames
-    headed : (z : Size) (a : Answer) → sizeOf n c ≡ z → inTurn n (identityAt s) ≡ a → askedBy z a n c ≡ askedOf s
+    pub asked-headed : askedFrom n c s ≡ askedOf s
     unfolding askedOf
-    headed z a e f = rw (le-ltb _ _ long, e, f)
+    asked-headed = rw (le-ltb _ _ long)
 
     pub asked-unsized : (x : Refusal) → sizeOf n c ≡ Size.Refused x → Asked.Refused x ≡ askedOf s
-    asked-unsized x e = headed (Size.Refused x) (inTurn n (identityAt s)) e refl
+    asked-unsized x e = ap (λ z. askedBy z (inTurn n (identityAt s)) n c) (sym e) ∙ asked-headed
 
     pub asked-badly : (x : Refusal) (w : ℕ) → sizeOf n c ≡ Size.Words w → inTurn n (identityAt s) ≡ Answer.Refused x →
         Asked.Refused x ≡ askedOf s
-    asked-badly x w e f = headed (Size.Words w) (Answer.Refused x) e f
+    asked-badly x w e f = ap₂ (λ z a. askedBy z a n c) (sym e) (sym f) ∙ asked-headed
 
     pub asked-well : (w : ℕ) → sizeOf n c ≡ Size.Words w → inTurn n (identityAt s) ≡ Answer.Done →
         Asked.Ring n c ≡ askedOf s
-    asked-well w e f = headed (Size.Words w) Answer.Done e f
+    asked-well w e f = ap₂ (λ z a. askedBy z a n c) (sym e) (sym f) ∙ asked-headed
 
--- a ring that is asked for is not too large
-pub asked-few : (s : List ℕ) (m d : ℕ) → askedOf s ≡ Asked.Ring m d → m ≤ mostProcesses
+-- n and c are within their limits
+abbrev pub Sizes : ℕ → ℕ → Type 0
+Sizes n c = Within mostProcesses n × Within mostCapacity c
+
+sized : (n c w : ℕ) → sizeOf n c ≡ Size.Words w → Sizes n c
+sized n c w q =
+    let a = inRange mostProcesses n in
+    let b = inRange mostCapacity c in
+    let both = words-in n c w (sym q) .1 in
+    (range-is mostProcesses n (and-left a b both), range-is mostCapacity c (and-right a b both))
+
+-- a ring that is asked for is within the limits, and of the header's numbers
+pub asked-ring : (s : List ℕ) (n c : ℕ) → askedOf s ≡ Asked.Ring n c →
+    Sizes n c × (n ≡ countIn s) × (c ≡ capacityIn s)
 unfolding askedOf
-asked-few s m d e =
+asked-ring s n c e =
     go (ltb (length s) headerLength) (sizeOf (countIn s) (capacityIn s)) refl (inTurn (countIn s) (identityAt s)) e
   where
     go : (short : Bool) (z : Size) → sizeOf (countIn s) (capacityIn s) ≡ z → (frames : Answer) →
-        cond short (Asked.Refused NoByte) (askedBy z frames (countIn s) (capacityIn s)) ≡ Asked.Ring m d →
-        m ≤ mostProcesses
+        cond short (Asked.Refused NoByte) (askedBy z frames (countIn s) (capacityIn s)) ≡ Asked.Ring n c →
+        Sizes n c × (n ≡ countIn s) × (c ≡ capacityIn s)
     go true z q frames e = let x : _≡_ {A = ℕ} 0 1 = cc in absurd (omega arith)
     go false (Size.Refused x) q frames e = let x : _≡_ {A = ℕ} 0 1 = cc in absurd (omega arith)
     go false (Size.Words w) q (Answer.Refused x) e = let x : _≡_ {A = ℕ} 0 1 = cc in absurd (omega arith)
     go false (Size.Words w) q Answer.Done e =
-        let same : countIn s ≡ m = cc in
-        omega (arith, same, size-fits (countIn s) (capacityIn s) w q .0)
+        let m : countIn s ≡ n = cc in
+        let d : capacityIn s ≡ c = cc in
+        (rw (m, d) at (sized (countIn s) (capacityIn s) w q), sym m, sym d)
