@@ -13,7 +13,7 @@ use Rattle.refusal.specs.declared.Answer.the-variants.{Done, Refused}
 use Rattle.words.specs.Layout.{statePlace, recordWidth, recordPlace}
 use Rattle.words.specs.Table.{capacityOf}
 use Rattle.words.specs.Outcomes.{stepOf}
-use Rattle.trial.specs.Trace.{Step, stateAt, stepFrom, taken, traceOf}
+use Rattle.trial.specs.Trace.{Step, stateWord, stepFrom, taken, traceOf}
 use Rattle.trial.specs.Text.{stepLine, stepLines}
 use Rattle.report.specs.Inside.{Room, wrote, step, stepRoom}
 use Rattle.report.proofs.Laid.{wrote-both, wrote-nothing}
@@ -24,7 +24,7 @@ place-small j c w few small e =
     mul-le-mul {n₁ = j} {m₁ = w} {n₂ = 255} {m₂ = 6 + 2 * 2 ^ 32} (omega (arith, few)) (omega (arith, small, e))
 
 -- past the last word there is none
-pub state-past : (t : List ℕ) (j : ℕ) → length t ≤ recordPlace (capacityOf t) j + statePlace → 0 ≡ stateAt t j
+pub state-past : (t : List ℕ) (j : ℕ) → length t ≤ recordPlace (capacityOf t) j + statePlace → 0 ≡ stateWord t j
 state-past t j out = sym (List·getD-eq-default t 0 out)
 
 -- after i choices, with k the next step's number: the lines that are still to come, behind those that are there, are
@@ -82,8 +82,8 @@ module _ (t₀ choices out₀ t out : List ℕ) (at k i : ℕ) (g : Going t₀ c
     step-room fits = omega (arith, g .within, g .long, fits, more)
 
     -- the step that is taken, by the state words that were read
-    pub went : Room out₀ 0 (length choices * stepRoom) → (Done, t′) ≡ stepOf t j → (a b : ℕ) → a ≡ stateAt t j →
-        b ≡ stateAt t′ j → (at′ : ℕ) (out′ : List ℕ) → (at′, out′) ≡ wrote out at (stepLine k (step j a b)) →
+    pub went : Room out₀ 0 (length choices * stepRoom) → (Done, t′) ≡ stepOf t j → (a b : ℕ) → a ≡ stateWord t j →
+        b ≡ stateWord t′ j → (at′ : ℕ) (out′ : List ℕ) → (at′, out′) ≡ wrote out at (stepLine k (step j a b)) →
         at′ ≤ at + stepRoom → length out′ ≡ length out → Going t₀ choices out₀ t′ out′ at′ (k + 1) (i + 1)
     went fits e a b was is at′ out′ w short same = record {
       upto = omega (arith, more);

@@ -40,7 +40,7 @@ fn least(a: usize, b: usize) -> usize
     if a < b { a } else { b }
 }
 
-// Frame i, with all that follows.
+// What frame i reads as.
 fn identity_at(input: &[u8], i: usize) -> Reading
     requires { ⌜ i ≤ mostProcesses ⌝ }
     ensures { λ r. ⌜ r ≡ identityAt (now (input .entry)) i ⌝ }

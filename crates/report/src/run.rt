@@ -10,7 +10,7 @@ ghost use lib.ListN.{length};
 ghost use Rattle.words.specs.Layout.{mostProcesses};
 ghost use Rattle.words.specs.Outcomes.{runOf};
 ghost use Rattle.trial.specs.Input.{mostSchedule};
-ghost use Rattle.trial.specs.Trace.{stateAt, traceOf};
+ghost use Rattle.trial.specs.Trace.{stateWord, traceOf};
 ghost use Rattle.trial.specs.Text.{stepLines};
 ghost use Rattle.trial.specs.Report.{runText};
 ghost use Rattle.trial.specs.Report.{budget as Report·budget};
@@ -27,7 +27,7 @@ pub(crate) fn budget(n: usize) -> u32
 
 // The state word of process j.
 fn state_at(table: &[u32], j: u8) -> u32
-    ensures { λ r. ⌜ r ≡ stateAt (now (table .entry)) j ⌝ }
+    ensures { λ r. ⌜ r ≡ stateWord (now (table .entry)) j ⌝ }
 {
     if table.len() < places::TABLE_HEAD {
         return 0;

@@ -15,12 +15,12 @@ pub record Step : Type 0 where
   pub after : ℕ
 
 -- the state word of process j
-abbrev pub stateAt : List ℕ → ℕ → ℕ
-stateAt t j = getD t (recordPlace (capacityOf t) j + statePlace) 0
+abbrev pub stateWord : List ℕ → ℕ → ℕ
+stateWord t j = getD t (recordPlace (capacityOf t) j + statePlace) 0
 
 -- the step of process j between two tables
 abbrev pub stepFrom : List ℕ → List ℕ → ℕ → Step
-stepFrom t t′ j = record { process = j; before = stateAt t j; after = stateAt t′ j }
+stepFrom t t′ j = record { process = j; before = stateWord t j; after = stateWord t′ j }
 
 -- a refused choice is no step
 abbrev pub taken : Answer → Step → List Step → List Step

@@ -128,7 +128,8 @@ module _ (t : List ℕ) (ok : wellFormed t ≡ true) where
   record-whole j h =
       record-length t (capacityOf t) j (omega (arith, record-inside (capacityOf t) j (countOf t) h, long))
 
-  record-words : (j : ℕ) → j < countOf t →
+  -- a record is the words of its process and queue
+  pub record-words : (j : ℕ) → j < countOf t →
       recordWords (capacityOf t) (procAt (ringOf t) j) (queueOf (ringOf t) j) ≡ recordAt t (capacityOf t) j
   record-words j h =
       rw (proc-read t j h, queue-read t j h)
