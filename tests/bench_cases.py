@@ -278,6 +278,12 @@ def long(chance):
         yield f"{name}-parted", given(capacity, mixed(identities, chance), parted)
         for more in 1, 4096, 65536, 1000000:
             yield f"{name}-then-{more}", given(capacity, mixed(identities, chance), moves + bytes([more % 251]) * more)
+    # the longest input of which every byte counts: the last one announces
+    falling = list(range(16, 0, -1))
+    moves = taken_bytes(falling, 1)
+    frames = mixed(falling, chance)
+    yield "longest", given(1, frames, bytes([255]) * (SCHEDULE - len(moves)) + moves)
+    yield "longest-cut", given(1, frames, bytes([255]) * (SCHEDULE - len(moves)) + moves[:-1])
     yield "idle-4096", given(1, [high(7)], [1] * 4096)
     yield "idle-65537", given(1, [high(7)], [1] * 65537)
     yield "refused-n-then-5000", given(1, [], [0x41] * 5000, n=0)

@@ -12,9 +12,15 @@ import pathlib
 import signal
 import subprocess
 import sys
+import time
 
 FOLDER = pathlib.Path(__file__).parent / "bench"
 SECONDS = 10
+# every so many cases one is handed over in two parts, with a pause between them
+PARTED = 10
+PAUSE = 0.02
+# what a pipe holds at least, so that a part is written before the program reads
+PIPE = 4096
 
 
 class Case:
@@ -48,13 +54,19 @@ def ended(status):
     return f"signal {signal.Signals(-status).name}" if status < 0 else f"exit status {status}"
 
 
-def run(program, data):
-    """What the program printed, and what is wrong with how it ended, if anything."""
+def run(program, data, front):
+    """What the program printed, and what is wrong with how it ended, if anything; front bytes come first, then a pause."""
+    process = subprocess.Popen([program], stdin=subprocess.PIPE, stdout=subprocess.PIPE)
+    if front:
+        process.stdin.write(data[:front])
+        process.stdin.flush()
+        time.sleep(PAUSE)
     try:
-        done = subprocess.run([program], input=data, stdout=subprocess.PIPE, timeout=SECONDS)
-    except subprocess.TimeoutExpired as late:
-        return late.stdout or b"", f"no end in {SECONDS} seconds"
-    return done.stdout, ended(done.returncode) if done.returncode else ""
+        seen, _ = process.communicate(data[front:], timeout=SECONDS)
+    except subprocess.TimeoutExpired:
+        process.kill()
+        return process.communicate()[0], f"no end in {SECONDS} seconds"
+    return seen, ended(process.returncode) if process.returncode else ""
 
 
 def marked(output):
@@ -63,10 +75,12 @@ def marked(output):
     return [f"| {line}" for line in lines] + [f"| {rest} (no newline)"] * bool(rest)
 
 
-def differs(program, case):
-    """Whether the case fails; if so, it is told."""
+def differs(program, number, case):
+    """Whether the case fails; if so, it is told. Some inputs come in two parts, as a pipe may hand them over."""
+    data = case.data()
+    parted = number % PARTED == 0 and len(data) < PIPE
     expected = case.expected.encode()
-    seen, wrong = run(program, case.data())
+    seen, wrong = run(program, data, len(data) // 2 if parted else 0)
     if seen == expected and not wrong:
         return False
     print("\n".join([f"case {case.name} of {case.file}", " ".join(["input", *case.tokens])]))
@@ -80,7 +94,7 @@ def main():
     parser.add_argument("folder", nargs="?", type=pathlib.Path, default=FOLDER)
     asked = parser.parse_args()
     cases = [case for path in sorted(asked.folder.iterdir()) for case in cases_in(path)]
-    failed = sum([differs(asked.program, case) for case in cases])
+    failed = sum([differs(asked.program, number, case) for number, case in enumerate(cases)])
     print(f"{len(cases)} cases, {failed} differ")
     return 1 if failed or not cases else 0
 

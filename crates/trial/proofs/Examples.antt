@@ -12,9 +12,9 @@ use Rattle.words.specs.Table.{recordWords, tableWords, ringOf}
 use Rattle.words.specs.WellFormed.{wellFormed}
 use Rattle.words.specs.Outcomes.{startOf, stepOf, runOf, leadsOf}
 use Rattle.trial.specs.Input.{mostInput, scheduleIn, askedOf}
-use Rattle.trial.specs.Trace.{traceOf}
-use Rattle.trial.specs.Text.{ascii, digitsIn, decimal}
-use Rattle.trial.specs.Report.{textOf}
+use Rattle.trial.specs.Trace.{Step, traceOf}
+use Rattle.trial.specs.Text.{ascii, digitsIn, decimal, stepLines}
+use Rattle.trial.specs.Report.{budget, textOf, printedOf}
 
 -- an input prints a text
 abbrev pub Prints : List ℕ → String → Type 0
@@ -85,6 +85,24 @@ steps =
     ascii "1 0 0 1\n2 1 0 1\n3 0 1 2\n4 1 1 2\n5 0 2 3\n6 1 2 3\n7 0 3 0\n"
     ++ ascii "8 1 3 4\n9 0 0 1\n10 1 4 5\n11 1 5 4\n12 0 1 2\n13 0 2 6\n"
 
+-- of ring 3, 7, 4, and of one whose first identity is the larger, by turns from the last
+abbrev steps-of-three : List ℕ
+steps-of-three =
+    ascii "1 0 0 1\n2 1 0 1\n3 2 0 1\n4 0 1 2\n5 1 1 2\n6 2 1 2\n7 0 2 3\n8 1 2 3\n9 2 2 3\n10 0 3 4\n"
+    ++ ascii "11 1 3 4\n12 2 3 0\n13 2 0 1\n14 0 4 5\n15 0 5 4\n16 1 4 5\n17 1 5 4\n18 2 1 2\n19 2 2 6\n"
+
+abbrev steps-of-other : List ℕ
+steps-of-other =
+    ascii "1 1 0 1\n2 0 0 1\n3 1 1 2\n4 0 1 2\n5 1 2 3\n6 0 2 3\n7 1 3 0\n"
+    ++ ascii "8 0 3 4\n9 1 0 1\n10 0 4 5\n11 0 5 4\n12 1 1 2\n13 1 2 6\n"
+
+-- all three by turns, three times and nine times
+abbrev thirds : List ℕ
+thirds = 0 ∷ 1 ∷ 2 ∷ 0 ∷ 1 ∷ 2 ∷ 0 ∷ 1 ∷ 2 ∷ []
+
+abbrev nine-turns : List ℕ
+nine-turns = thirds ++ thirds ++ thirds
+
 -- both by turns, once more than it takes
 abbrev turns : List ℕ
 turns = 0 ∷ 1 ∷ 0 ∷ 1 ∷ 0 ∷ 1 ∷ 0 ∷ 1 ∷ 0 ∷ 1 ∷ 0 ∷ 1 ∷ 0 ∷ 1 ∷ 0 ∷ 1 ∷ []
@@ -102,6 +120,17 @@ pub record Elections : Type 0 where
   -- ring 5, 9: the process of 5 leads, with 9
   pub two : textOf (input 2 1 (high 5 ++ high 9 ++ turns))
       ≡ steps ++ ascii "end 1 taken 13 skipped 2 leader 0 value 9\n"
+  -- identities 65536 and 5: the other process leads
+  pub other : textOf (input 2 1 ((0x41 ∷ 0x00 ∷ 0x01 ∷ 0x00 ∷ 0x00 ∷ []) ++ low 5 ++ (1 ∷ turns)))
+      ≡ steps-of-other ++ ascii "end 1 taken 13 skipped 2 leader 1 value 65536\n"
+  -- ring 3, 7, 4 at capacity 2: 19 taken, process 2 leads with 7
+  pub three : textOf (input 3 2 (high 3 ++ low 7 ++ high 4 ++ nine-turns))
+      ≡ steps-of-three ++ ascii "end 1 taken 19 skipped 8 leader 2 value 7\n"
+  -- choices 0, 1, 0 are taken, then 0 is refused at capacity 1 and taken at capacity 2
+  pub full : Prints (input 2 1 (high 5 ++ high 9 ++ (0 ∷ 1 ∷ 0 ∷ 0 ∷ [])))
+      "1 0 0 1\n2 1 0 1\n3 0 1 2\nend 0 taken 3 skipped 1 leader - value -\n"
+  pub room-for-two : Prints (input 2 2 (high 5 ++ high 9 ++ (0 ∷ 1 ∷ 0 ∷ 0 ∷ [])))
+      "1 0 0 1\n2 1 0 1\n3 0 1 2\n4 0 2 3\nend 0 taken 4 skipped 0 leader - value -\n"
   -- identities 1 and 256 in different orders: 256 leads
   pub mixed : textOf (input 2 1 (high 1 ++ (0x61 ∷ 0x00 ∷ 0x01 ∷ 0x00 ∷ 0x00 ∷ []) ++ turns))
       ≡ steps ++ ascii "end 1 taken 13 skipped 2 leader 0 value 256\n"
@@ -115,8 +144,15 @@ elections = record {
   one-choice = refl;
   some-skipped = refl;
   two = refl;
+  other = refl;
+  three = refl;
+  full = refl;
+  room-for-two = refl;
   mixed = refl;
 }
+
+abbrev someStep : Step
+someStep = record { process = 15; before = 4; after = 5 }
 
 pub record Numbers : Type 0 where
   -- no zero in front, and 0 itself
@@ -124,6 +160,10 @@ pub record Numbers : Type 0 where
   pub nine : decimal 9 ≡ ascii "9"
   pub ten : decimal 10 ≡ ascii "10"
   pub thousands : decimal 4096 ≡ ascii "4096"
+  pub step-hundred : stepLines 99 (someStep ∷ someStep ∷ []) ≡ ascii "99 15 4 5\n100 15 4 5\n"
+  -- the budget of the smallest ring and of the largest
+  pub one-budget : _≡_ {A = ℕ} (budget 1) 6
+  pub most-budget : _≡_ {A = ℕ} (budget 16) 1536
   -- at most 4,096 schedule bytes are used
   pub all-used : length (scheduleIn 0 (replicate 4098 0)) ≡ 4096
   pub some-ignored : length (scheduleIn 1 (replicate 4104 0)) ≡ 4096
@@ -137,7 +177,27 @@ numbers = record {
   nine = refl;
   ten = refl;
   thousands = refl;
+  step-hundred = refl;
+  one-budget = refl;
+  most-budget = refl;
   all-used = refl;
   some-ignored = refl;
   longest = refl;
 }
+
+-- the bytes of the words that are printed
+pub record Words : Type 0 where
+  pub refused : ascii "refused -\n"
+      ≡ 0x72 ∷ 0x65 ∷ 0x66 ∷ 0x75 ∷ 0x73 ∷ 0x65 ∷ 0x64 ∷ 0x20 ∷ 0x2D ∷ 0x0A ∷ []
+  pub taken : ascii "end taken" ≡ 0x65 ∷ 0x6E ∷ 0x64 ∷ 0x20 ∷ 0x74 ∷ 0x61 ∷ 0x6B ∷ 0x65 ∷ 0x6E ∷ []
+  pub skipped : ascii "skipped" ≡ 0x73 ∷ 0x6B ∷ 0x69 ∷ 0x70 ∷ 0x70 ∷ 0x65 ∷ 0x64 ∷ []
+  pub leader : ascii "leader" ≡ 0x6C ∷ 0x65 ∷ 0x61 ∷ 0x64 ∷ 0x65 ∷ 0x72 ∷ []
+  pub value : ascii "value" ≡ 0x76 ∷ 0x61 ∷ 0x6C ∷ 0x75 ∷ 0x65 ∷ []
+
+pub words : Words
+words = record { refused = refl; taken = refl; skipped = refl; leader = refl; value = refl }
+
+-- the text's length, and the text in front of the bytes behind it
+pub placed : printedOf (replicate 10 0xEE ++ (1 ∷ 2 ∷ [])) (input 1 0 []) ≡ (10, ascii "refused 2\n" ++ (1 ∷ 2 ∷ []))
+unfolding textOf askedOf digitsIn
+placed = refl

@@ -16,7 +16,7 @@ use Rattle.words.specs.WellFormed.{wellFormed}
 use Rattle.words.specs.Outcomes.{stepOf}
 use Rattle.words.proofs.Sound.{record-words}
 use Rattle.words.proofs.Beside.{Beside, move-beside}
-use Rattle.words.proofs.Ended.{Stepped, step-done}
+use Rattle.words.proofs.Ended.{step-done}
 use Rattle.trial.specs.Trace.{Step, stateWord, stepFrom}
 
 -- the state word of a process of a well-formed table is the number of its state
