@@ -19,9 +19,9 @@ use Rattle.report.specs.Inside.{Room, wrote, step, stepRoom}
 use Rattle.report.proofs.Laid.{wrote-both, wrote-nothing}
 
 -- a byte times the words of a record
-pub place-small : (j c w : ℕ) → j < 256 → c < 2 ^ 32 → w ≡ recordWidth c → j * w ≤ 255 * (6 + 2 * 2 ^ 32)
+pub place-small : (j c w : ℕ) → j < 256 → c < 2 ^ 32 → w ≡ recordWidth c → j * w ≤ 255 * recordWidth (2 ^ 32)
 place-small j c w few small e =
-    mul-le-mul {n₁ = j} {m₁ = w} {n₂ = 255} {m₂ = 6 + 2 * 2 ^ 32} (omega (arith, few)) (omega (arith, small, e))
+    mul-le-mul {n₁ = j} {m₁ = w} {n₂ = 255} {m₂ = recordWidth (2 ^ 32)} (omega (arith, few)) (omega (arith, small, e))
 
 -- past the last word there is none
 pub state-past : (t : List ℕ) (j : ℕ) → length t ≤ recordPlace (capacityOf t) j + statePlace → 0 ≡ stateWord t j

@@ -1,5 +1,5 @@
 -- What follows the input that is used is ignored. Assumes nothing.
-use Prim.Native.Nat.{ℕ, zero, suc, _+_, _*_, _≤_, _<_}
+use Prim.Native.Nat.{ℕ, zero, suc, _+_, _≤_, _<_}
 use mathlib.Core.Path.{_≡_, refl, sym, ap, ap₂, _∙_}
 use mathlib.Core.List.{List, [], _∷_, _++_}
 use native.Mathlib.Decide.{decLe}
@@ -22,6 +22,7 @@ use Rattle.trial.specs.declared.Asked.the-variants as Asked
 use Rattle.trial.specs.Input.{
   headerLength,
   mostSchedule,
+  framePlace,
   mostInput,
   countIn,
   capacityIn,
@@ -42,7 +43,7 @@ use Rattle.trial.proofs.Asking.{askedFrom, asked-headed, asked-ring}
 
 -- what is used of an input that asks for a ring of n: the header, n frames, the schedule
 abbrev pub used : ℕ → ℕ
-used n = headerLength + n * frameLength Active + mostSchedule
+used n = framePlace n + mostSchedule
 
 -- what bytes behind the first m do not change is the same of the first m as of all
 front : {A : Type 0} (F : List ℕ → A) (m : ℕ) (s : List ℕ) →
@@ -107,14 +108,14 @@ module _ (s more : List ℕ) (headed : headerLength ≤ length s)
     module _ (few : countIn s ≤ mostProcesses) where
       from-more : (i : ℕ) → i ≤ countIn s → framesFrom (s ++ more) i ≡ framesFrom s i ++ more
       from-more i b =
-          drop-append-le (headerLength + i * frameLength Active) s more
+          drop-append-le (framePlace i) s more
           (omega (arith, long few, mul-le-mul-right (frameLength Active) b))
 
       at-more : (i : ℕ) → i < countIn s → identityAt (s ++ more) i ≡ identityAt s i
       at-more i b =
           ap identityOf (from-more i (omega arith))
           ∙ identity-more more (framesFrom s i)
-          (rw (length-drop (headerLength + i * frameLength Active) s)
+          (rw (length-drop (framePlace i) s)
           (omega (arith, long few, mul-le-mul-right (frameLength Active) b)))
 
       identities-more : identitiesIn (countIn s) (s ++ more) ≡ identitiesIn (countIn s) s
@@ -124,7 +125,7 @@ module _ (s more : List ℕ) (headed : headerLength ≤ length s)
       schedule-more =
           ap (take mostSchedule) (from-more (countIn s) (omega arith))
           ∙ take-append-le mostSchedule (framesFrom s (countIn s)) more
-          (rw (length-drop (headerLength + countIn s * frameLength Active) s) (omega (arith, long few)))
+          (rw (length-drop (framePlace (countIn s)) s) (omega (arith, long few)))
 
     asked-more : askedOf (s ++ more) ≡ askedOf s
     asked-more =

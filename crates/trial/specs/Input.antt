@@ -29,9 +29,13 @@ headerLength = 2
 abbrev pub mostSchedule : ℕ
 mostSchedule = 4096
 
+-- where frame i begins
+abbrev pub framePlace : ℕ → ℕ
+framePlace i = headerLength + i * frameLength Active
+
 -- the longest input that is used: the header, the frames of the largest ring, the schedule
 abbrev pub mostInput : ℕ
-mostInput = headerLength + mostProcesses * frameLength Active + mostSchedule
+mostInput = framePlace mostProcesses + mostSchedule
 
 -- byte 0 is n
 abbrev pub countIn : List ℕ → ℕ
@@ -53,7 +57,7 @@ identityOf s = identityAs (headOf (getD s 0 0)) s
 
 -- the input from frame i on
 abbrev pub framesFrom : List ℕ → ℕ → List ℕ
-framesFrom s i = drop (headerLength + i * frameLength Active) s
+framesFrom s i = drop (framePlace i) s
 
 -- what frame i reads as
 abbrev pub identityAt : List ℕ → ℕ → Reading

@@ -4,6 +4,7 @@ use mathlib.Core.Path.{ap}
 use native.Mathlib.Omega.{arith}
 use borrow.Author.Needs.{needs}
 use lib.ListN.{length, getD}
+use Rattle.words.specs.Layout.{capacityPlace, tableHead, statePlace, recordWidth}
 use Rattle.report.proofs.Tracing.{place-small, state-past}
 use Rattle.report.proofs.run.state_at.Statement.{statement}
 use Rattle.report.proofs.run.state_at.Tie as tie
@@ -18,25 +19,26 @@ returns c =
 
 -- the record's place is far below what its type holds
 small : (c : lts.After-width (width.Asked, width.Learnt) reads.Pre reads.Post) →
-    c .before .before .before .before .args .j * c .width .result ≤ 255 * (6 + 2 * 2 ^ 32)
+    c .before .before .before .before .args .j * c .width .result ≤ 255 * recordWidth (2 ^ 32)
 small c =
     let start = c .before .before .before .before in
-    place-small (start .args .j) (getD (start .args .table .now) 1 0) (c .width .result) (omega (arith, start .fits .j))
-    (omega (arith, c .before .shared-slice-known2 .given 1 .fits))
+    place-small (start .args .j) (getD (start .args .table .now) capacityPlace 0) (c .width .result)
+    (omega (arith, start .fits .j))
+    (omega (arith, c .before .shared-slice-known2 .given capacityPlace .fits))
     (c .width .ensures)
 
 returns-2 : tie.Need-returns-2
 returns-2 c =
     let a = c .before .before .before .before .before .args in
     let w = c .before .width in
-    let past : length (a .table .now) ≤ 2 + a .j * w .result + 1 = omega (arith, c .if2 .taken) in
+    let past : length (a .table .now) ≤ tableHead + a .j * w .result + statePlace = omega (arith, c .if2 .taken) in
     state-past (a .table .now) (a .j) (rw (w .ensures) at past)
 
 returns-3 : tie.Need-returns-3
 returns-3 c =
     let c2 = c .before .before in
     let a = c2 .before .before .before .before .args in
-    ap (λ (w : ℕ). getD (a .table .now) (2 + a .j * w + 1) 0) (c2 .width .ensures)
+    ap (λ (w : ℕ). getD (a .table .now) (tableHead + a .j * w + statePlace) 0) (c2 .width .ensures)
 
 pub state-at-spec : {M : Type 1} → statement M
 state-at-spec =
