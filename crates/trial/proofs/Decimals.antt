@@ -1,11 +1,11 @@
--- Numbers in decimal: one digit more, and how many there are. Assumes nothing.
+-- Numbers in decimal: one digit more, how many there are, what they say, the first of them. Assumes nothing.
 use Prim.Native.Nat.{ℕ, zero, suc, _+_, _*_, _-_, _/_, _%_, _^_, _≤_, _<_}
 use mathlib.Core.Path.{_≡_, refl, sym, ap, _∙_}
 use mathlib.Core.List.{List, [], _∷_, _++_}
 use native.Mathlib.Nat.{div-add-mod, pow-suc}
 use native.Mathlib.Decide.{ℕ-discrete}
 use native.Mathlib.Omega.{arith}
-use lib.ListN.{length, length-append}
+use lib.ListN.{length, getD, length-append, List·getD-append}
 use borrow.Author.Tests.{ne-eqb}
 use Rattle.trial.specs.Text.{digit, digitsIn, decimal}
 
@@ -116,3 +116,26 @@ pub decimal-back : (n : ℕ) → said 0 (decimal n) ≡ n
 decimal-back n =
     said-last 0 (digitsIn n (n / 10)) (n % 10)
     ∙ rw (said-back n (n / 10) (omega (arith, div-add-mod n 10))) (omega (arith, div-add-mod n 10))
+
+-- it begins with a digit above 0
+abbrev Begun : List ℕ → Type 0
+Begun l = (1 ≤ length l) × (digit 0 < getD l 0 0)
+
+begun-more : (l : List ℕ) (d : ℕ) → Begun l → Begun (l ++ (digit d ∷ []))
+begun-more l d b =
+    (omega (arith, length-append l (digit d ∷ []), b .0), rw (List·getD-append l (digit d ∷ []) 0 0 (b .0)) (b .1))
+
+digits-begun : (f n : ℕ) → n ≤ f → 0 < n → Begun (digitsIn f n)
+digits-begun zero n few some = absurd (omega (arith, few, some))
+digits-begun (suc f) n few some =
+    rw (one-more-in f n some)
+    (go (λ more. digits-begun f (n / 10) (omega (arith, few, tenth-less n some)) more) (ℕ-discrete (n / 10) 0))
+  where
+    go : (0 < n / 10 → Begun (digitsIn f (n / 10))) → Dec (n / 10 ≡ 0) →
+        Begun (digitsIn f (n / 10) ++ (digit (n % 10) ∷ []))
+    go more (yes e) = rw (e, none-of-zero f) (omega arith, omega (arith, some, e, div-add-mod n 10))
+    go more (no ne) = begun-more (digitsIn f (n / 10)) (n % 10) (more (omega (arith, ne)))
+
+-- no zero stands in front of a number that is not 0
+pub no-zero-in-front : (n : ℕ) → 0 < n → digit 0 < getD (decimal n) 0 0
+no-zero-in-front n some = rw (decimal-is n ∙ sym (digits-more n some)) (digits-begun n n (omega arith) some .1)

@@ -1,18 +1,18 @@
 -- What follows the input that is used is ignored. Assumes nothing.
 use Prim.Native.Nat.{ℕ, zero, suc, _+_, _≤_, _<_}
 use mathlib.Core.Path.{_≡_, refl, sym, ap, ap₂, _∙_}
-use mathlib.Core.List.{List, [], _∷_, _++_}
+use mathlib.Core.List.{List, _++_}
 use native.Mathlib.Decide.{decLe}
 use native.Mathlib.Nat.{mul-le-mul-right}
 use native.Mathlib.Omega.{arith}
-use borrow.Author.Tests.{le-ltb}
 use lib.ListN.{length, getD, take, drop, length-append, length-drop, take-append-drop, List·getD-append}
 use lib.Seq.{length-take-le, take-all, take-append-le, drop-append-le, getD-take}
 use Rattle.gateway.specs.declared.Kind.the-variants.{Passive, Active}
 use Rattle.wire.specs.declared.Head.{Head}
 use Rattle.wire.specs.declared.Head.the-variants.{Frame, NoHead}
 use Rattle.wire.specs.declared.Reading.{Reading}
-use Rattle.wire.specs.Frames.{bodyLength, frameLength, headOf, readAs, readOf}
+use Rattle.wire.specs.Frames.{frameLength, headOf}
+use Rattle.wire.proofs.Promises.{five-enough}
 use Rattle.words.specs.Layout.{mostProcesses}
 use Rattle.words.specs.Outcomes.{sizeOf, startOf}
 use Rattle.words.proofs.Blocks.{firsts-same}
@@ -57,35 +57,14 @@ front F m s more = go (decLe (length s) m)
 
 -- frames --
 
-module _ (more : List ℕ) where
-  read-more : (s : List ℕ) → frameLength Active ≤ length s → readOf (s ++ more) ≡ readOf s
-  read-more [] whole = absurd (omega arith)
-  read-more (b ∷ l) whole = by-head (headOf b)
-    where
-      by-head : (h : Head) → readAs h (b ∷ (l ++ more)) ≡ readAs h (b ∷ l)
-      by-head NoHead = refl
-      by-head (Frame o k) =
-          rw (
-            le-ltb (length (b ∷ (l ++ more))) (frameLength k) (omega (arith, length-append l more)),
-            le-ltb (length (b ∷ l)) (frameLength k) (omega arith),
-            take-append-le (bodyLength k) l more (omega arith),
-          )
-
-  identity-more : (s : List ℕ) → frameLength Active ≤ length s → identityOf (s ++ more) ≡ identityOf s
-  identity-more s whole = rw (List·getD-append s more 0 0 (omega arith)) (by-head (headOf (getD s 0 0)))
-    where
-      by-head : (h : Head) → identityAs h (s ++ more) ≡ identityAs h s
-      by-head NoHead = read-more s whole
-      by-head (Frame o Active) = read-more s whole
-      by-head (Frame o Passive) = refl
-
--- the reading of a frame uses five bytes only
-pub read-few : (m : ℕ) (s : List ℕ) → frameLength Active ≤ m → readOf (take m s) ≡ readOf s
-read-few m s whole = front readOf m s (λ long. read-more (drop m s) (take m s) (omega arith))
-
--- and so does that of an identity
-pub identity-few : (m : ℕ) (s : List ℕ) → frameLength Active ≤ m → identityOf (take m s) ≡ identityOf s
-identity-few m s whole = front identityOf m s (λ long. identity-more (drop m s) (take m s) (omega arith))
+-- what stands where an identity is to stand is read by its first five bytes only
+pub identity-more : (s more : List ℕ) → frameLength Active ≤ length s → identityOf (s ++ more) ≡ identityOf s
+identity-more s more enough = rw (List·getD-append s more 0 0 (omega arith)) (by-head (headOf (getD s 0 0)))
+  where
+    by-head : (h : Head) → identityAs h (s ++ more) ≡ identityAs h s
+    by-head NoHead = five-enough s more enough
+    by-head (Frame o Active) = five-enough s more enough
+    by-head (Frame o Passive) = refl
 
 -- frames that read alike answer alike
 turns-same : (n : ℕ) (f g : ℕ → Reading) → ((i : ℕ) → i < n → f i ≡ g i) → inTurn n f ≡ inTurn n g
@@ -114,7 +93,7 @@ module _ (s more : List ℕ) (headed : headerLength ≤ length s)
       at-more : (i : ℕ) → i < countIn s → identityAt (s ++ more) i ≡ identityAt s i
       at-more i b =
           ap identityOf (from-more i (omega arith))
-          ∙ identity-more more (framesFrom s i)
+          ∙ identity-more (framesFrom s i) more
           (rw (length-drop (framePlace i) s)
           (omega (arith, long few, mul-le-mul-right (frameLength Active) b)))
 

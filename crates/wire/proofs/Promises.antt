@@ -1,14 +1,14 @@
 -- What is promised of frames: written is read back, accepted is what the writer makes. Assumes nothing.
-use Prim.Native.Nat.{ℕ, suc, _^_, _≤_, _<_}
+use Prim.Native.Nat.{ℕ, suc, _+_, _^_, _≤_, _<_}
 use mathlib.Core.Path.{_≡_, refl, ap, ap₂, _∙_}
 use mathlib.Core.Bool.{Bool, true, false, cond}
-use mathlib.Core.List.{List, _++_, append-assoc}
+use mathlib.Core.List.{List, [], _∷_, _++_, append-assoc}
 use mathlib.Core.Option.{some}
 use native.Mathlib.Omega.{arith}
 use borrow.Author.Tests.{le-ltb}
 use lib.Dec.{ltb}
 use lib.ListN.{length, getD, take, drop, length-append}
-use lib.Seq.{take-at, drop-at}
+use lib.Seq.{take-at, drop-at, take-append-le}
 use Rattle.gateway.specs.declared.Kind.{Kind}
 use Rattle.gateway.specs.declared.Msg.{Msg}
 use Rattle.gateway.specs.Row.{msg}
@@ -24,12 +24,13 @@ use Rattle.wire.specs.declared.Head.{Head}
 use Rattle.wire.specs.declared.Head.the-variants.{Frame, NoHead}
 use Rattle.wire.specs.declared.Reading.{Reading}
 use Rattle.wire.specs.declared.Reading.the-variants.{Message, Refused}
-use Rattle.wire.specs.Bytes.{AllBytes, field}
+use Rattle.wire.specs.Bytes.{wordBytes, AllBytes, field}
 use Rattle.wire.specs.Frames.{
   bodyLength,
   frameLength,
   frameOf,
   headOf,
+  readAs,
   readOf,
   orderFor,
   headFor,
@@ -39,7 +40,7 @@ use Rattle.wire.specs.Frames.{
 }
 use Rattle.wire.proofs.Digits.{length-field, value-field}
 use Rattle.wire.proofs.Heads.{head-back, head-for, order-sent, sent-by}
-use Rattle.wire.proofs.Readable.{begins-read, read-begins, begins-more, begins-small, begins-frame}
+use Rattle.wire.proofs.Readable.{begins-read, read-begins, begins-small, begins-frame}
 
 -- a frame has the length that the kind fixes
 pub length-frame : (o : Order) (m : Msg) → length (frameOf o m) ≡ frameLength (m .kind)
@@ -121,9 +122,23 @@ accepted-is-written s m a e =
       made = λ g out q l. rw (← begins-frame s m a f) (written-frame g (f .order) m out q l);
     }
 
--- reading ignores what follows a frame
+-- reading uses the first five bytes, whether they are refused or not,
+pub five-enough : (s more : List ℕ) → 1 + wordBytes ≤ length s → readOf (s ++ more) ≡ readOf s
+five-enough [] more enough = absurd (omega arith)
+five-enough (b ∷ l) more enough = by-head (headOf b)
+  where
+    by-head : (h : Head) → readAs h (b ∷ (l ++ more)) ≡ readAs h (b ∷ l)
+    by-head NoHead = refl
+    by-head (Frame o k) =
+        rw (
+          le-ltb (length (b ∷ (l ++ more))) (frameLength k) (omega (arith, length-append l more)),
+          le-ltb (length (b ∷ l)) (frameLength k) (omega arith),
+          take-append-le (bodyLength k) l more (omega arith),
+        )
+
+-- so that it ignores what follows a frame
 pub rest-ignored : (s more : List ℕ) (m : Msg) → readOf s ≡ Message m → readOf (s ++ more) ≡ Message m
-rest-ignored s more m e = begins-read (s ++ more) m (begins-more s more m (read-begins s m e))
+rest-ignored s more m e = five-enough s more (read-begins s m e .whole) ∙ e
 
 -- a refusal to write changes no byte
 pub refusal-writes-nothing : (out : List ℕ) (g n v : ℕ) (r : Refusal) →

@@ -2,12 +2,12 @@
 use Prim.Native.Nat.{ℕ, _^_, _≤_, _<_}
 use mathlib.Core.Path.{_≡_, refl, subst}
 use mathlib.Core.Bool.{Bool, true, false, cond}
-use mathlib.Core.List.{List, [], _∷_, _++_}
+use mathlib.Core.List.{List, [], _∷_}
 use native.Mathlib.Omega.{arith}
 use borrow.Author.Tests.{le-ltb, ltb-false}
 use lib.Dec.{ltb}
-use lib.ListN.{length, getD, take, drop, length-append, length-drop}
-use lib.Seq.{take-append-le, length-take-le}
+use lib.ListN.{length, getD, take, drop, length-drop}
+use lib.Seq.{length-take-le}
 use Rattle.gateway.specs.declared.Kind.{Kind}
 use Rattle.gateway.specs.declared.Msg.{Msg}
 use Rattle.gateway.specs.Row.{msg}
@@ -50,17 +50,6 @@ read-begins (b ∷ l) m e = byHead (headOf b) refl e
     byHead : (h : Head) → headOf b ≡ h → readAs h (b ∷ l) ≡ Message m → Begins (b ∷ l) m
     byHead NoHead q f = let z : _≡_ {A = ℕ} 0 1 = cc in absurd (omega arith)
     byHead (Frame o k) q f = byLength o k _ (ltb (length (b ∷ l)) (frameLength k)) q refl f
-
--- what begins so does so whatever follows
-pub begins-more : (s more : List ℕ) (m : Msg) → Begins s m → Begins (s ++ more) m
-begins-more [] more m f = absurd (omega (arith, f .whole))
-begins-more (b ∷ l) more m f =
-    record {
-      order = f .order;
-      named = f .named;
-      whole = omega (arith, f .whole, length-append l more);
-      body = rw (take-append-le (bodyLength (m .kind)) l more (omega (arith, f .whole))) (f .body);
-    }
 
 -- where s is of bytes, so is the body, and it has the length that the kind fixes
 begins-body : (s : List ℕ) (m : Msg) → AllBytes s → Begins s m →
