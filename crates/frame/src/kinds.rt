@@ -4,9 +4,19 @@ use rows::numbers;
 use wire::Head;
 use wire::Order;
 ghost use mathlib.Core.Path.{_≡_};
+ghost use mathlib.Core.Bool.{true, false};
+ghost use Prim.Native.Nat.{_+_, _*_, _/_, _%_};
 ghost use Rattle.gateway.specs.declared.Kind.{Kind};
 ghost use Rattle.wire.specs.declared.Order.{Order};
+ghost use Rattle.wire.specs.declared.Head.the-variants.{NoHead};
 ghost use Rattle.wire.specs.Frames.{kindByte, headOf, headFor};
+
+// The byte that begins an active frame, high byte first.
+const ACTIVE: u8 = 0x41;
+// A passive one.
+const PASSIVE: u8 = 0x42;
+// The bit that it has more where the low byte comes first.
+const LOW_FIRST: u8 = 0x20;
 
 // The byte that begins a frame of an order and a kind.
 pub(crate) fn kind_byte(order: Order, kind: Kind) -> u8
@@ -14,28 +24,51 @@ pub(crate) fn kind_byte(order: Order, kind: Kind) -> u8
 {
     match order {
         Order::High => match kind {
-            Kind::Active => 0x41,
-            Kind::Passive => 0x42,
+            Kind::Active => ACTIVE,
+            Kind::Passive => PASSIVE,
         },
         Order::Low => match kind {
-            Kind::Active => 0x61,
-            Kind::Passive => 0x62,
+            Kind::Active => ACTIVE + LOW_FIRST,
+            Kind::Passive => PASSIVE + LOW_FIRST,
         },
     }
 }
 
-// The order of a kind byte; of another byte, any. A guess that is then tested compiles without a jump.
-fn order_guess(byte: u8) -> Order
+// A byte without the order's bit.
+fn without_order(byte: u8) -> u8
+    ensures { λ r. ⌜ r ≡ byte / 64 * 64 + byte % 32 ⌝ }
+{
+    byte / (2 * LOW_FIRST) * (2 * LOW_FIRST) + byte % LOW_FIRST
+}
+
+// Whether a byte begins a frame. Without the order's bit it is one of two neighbours: one jump, whatever the kinds.
+fn known(byte: u8) -> bool
+    ensures { λ r. ⌜ ((r ≡ true → (o : Order) × (k : Kind) × (byte ≡ kindByte o k)) ×
+        (r ≡ false → headOf byte ≡ NoHead)) ⌝ }
+{
+    let rest = without_order(byte);
+    if rest < ACTIVE {
+        return false;
+    }
+    rest <= PASSIVE
+}
+
+// The order of a kind byte; of another byte, any.
+fn order_in(byte: u8) -> Order
     ensures { λ r. ⌜ ((o : Order) → (k : Kind) → byte ≡ kindByte o k → r ≡ o) ⌝ }
 {
-    if byte < 0x60 { Order::High } else { Order::Low }
+    if byte / LOW_FIRST % 2 == 0 {
+        Order::High
+    } else {
+        Order::Low
+    }
 }
 
 // The kind of a kind byte; of another byte, any.
-fn kind_guess(byte: u8) -> Kind
+fn kind_in(byte: u8) -> Kind
     ensures { λ r. ⌜ ((o : Order) → (k : Kind) → byte ≡ kindByte o k → r ≡ k) ⌝ }
 {
-    if byte % 32 == 1 {
+    if without_order(byte) == ACTIVE {
         Kind::Active
     } else {
         Kind::Passive
@@ -46,13 +79,10 @@ fn kind_guess(byte: u8) -> Kind
 pub fn head_of(byte: u8) -> Head
     ensures { λ r. ⌜ r ≡ headOf byte ⌝ }
 {
-    let order = order_guess(byte);
-    let kind = kind_guess(byte);
-    if kind_byte(order, kind) == byte {
-        Head::Frame(order, kind)
-    } else {
-        Head::NoHead
+    if known(byte) {
+        return Head::Frame(order_in(byte), kind_in(byte));
     }
+    Head::NoHead
 }
 
 // What begins the frame of a generation and a kind's number.

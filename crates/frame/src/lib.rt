@@ -7,7 +7,11 @@ use wire::Head;
 use wire::ReadTold;
 use wire::Reading;
 ghost use mathlib.Core.Path.{_≡_};
-ghost use Rattle.wire.specs.Frames.{readOf, readTold, writeOf};
+ghost use Prim.Native.Nat.{_<_};
+ghost use lib.ListN.{length};
+ghost use Rattle.gateway.specs.declared.Kind.{Kind};
+ghost use Rattle.wire.specs.declared.Reading.the-variants.{Refused};
+ghost use Rattle.wire.specs.Frames.{frameLength, readOf, readTold, writeOf};
 
 mod body;
 mod kinds;
@@ -17,26 +21,35 @@ pub use kinds::head_of;
 // The bytes of a frame: its kind byte, and a body of four.
 pub const FRAME: usize = 5;
 
+// Why bytes that are too few for a frame are refused.
+fn too_few(bytes: &[u8]) -> Refusal
+    requires { ⌜ ((k : Kind) → length (now bytes) < frameLength k) ⌝ }
+    ensures { λ r. ⌜ Refused r ≡ readOf (now (bytes .entry)) ⌝ }
+{
+    let n = bytes.len();
+    if n == 0 {
+        return Refusal::NoByte;
+    }
+    match kinds::head_of(bytes[0]) {
+        Head::NoHead => Refusal::UnknownKind,
+        Head::Frame(_, _) => Refusal::Cut(n as u32),
+    }
+}
+
 // Reads the frame that bytes begins with: refused 11 without a byte, 12 at an unknown kind byte, 13 under five bytes.
 // What follows the frame is not looked at.
 pub fn read(bytes: &[u8]) -> Reading
     ensures { λ r. ⌜ r ≡ readOf (now (bytes .entry)) ⌝ }
 {
-    let n = bytes.len();
-    if n == 0 {
-        return Reading::Refused(Refusal::NoByte);
+    if bytes.len() < FRAME {
+        return Reading::Refused(too_few(bytes));
     }
     match kinds::head_of(bytes[0]) {
+        Head::Frame(order, kind) => Reading::Message(Msg {
+            value: body::word(&bytes[1..], order),
+            kind: kind,
+        }),
         Head::NoHead => Reading::Refused(Refusal::UnknownKind),
-        Head::Frame(order, kind) => {
-            if n < FRAME {
-                return Reading::Refused(Refusal::Cut(n as u32));
-            }
-            Reading::Message(Msg {
-                value: body::word(&bytes[1..], order),
-                kind: kind,
-            })
-        }
     }
 }
 

@@ -27,7 +27,8 @@ pub enum Answer {
     Refused(Refusal),
 }
 
-// An answer in document 01's numbers; 0 and 0 mean done.
+// An answer in document 01's numbers; 0 and 0 mean done. Laid out as C's thk_told.
+#[repr(C)]
 pub struct Told {
     pub number: u32,
     pub place: u32,

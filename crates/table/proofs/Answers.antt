@@ -93,10 +93,19 @@ module _ (t ids : List ℕ) (c : ℕ) where
       pub start-repeats : i < length ids → (Refused (Repeated i), t) ≡ startOf t ids c
       start-repeats h = rw (start-sized, e, le-ltb (length t) w long, ← at, lt-ltb i (length ids) h)
 
-      pub start-done : length ids ≤ i → (t′ : List ℕ) →
-          t′ ≡ tableWords (length ids) c (started ids) ++ drop (tableLength (length ids) c) t →
-          (Done, t′) ≡ startOf t ids c
-      start-done h t′ q = rw (start-sized, e, le-ltb (length t) w long, ← at, le-ltb i (length ids) h, q)
+      -- the table laid over the first w words, those beyond it as they were
+      pub start-done : length ids ≤ i → (t′ : List ℕ) → t′ ≡ tableWords (length ids) c (started ids) →
+          (Done, t′ ++ drop w t) ≡ startOf t ids c
+      start-done h t′ q =
+          rw (
+            start-sized,
+            e,
+            le-ltb (length t) w long,
+            ← at,
+            le-ltb i (length ids) h,
+            q,
+            size-fits (length ids) c w e .1,
+          )
 
 -- a step --
 

@@ -1,46 +1,37 @@
 -- The words of a start, as they are laid, one record behind the other. Assumes nothing.
-use Prim.Native.Nat.{ℕ, zero, suc, _+_, _-_, _*_, _≤_}
-use mathlib.Core.Path.{_≡_, refl, ap}
+use Prim.Native.Nat.{ℕ, zero, suc, _+_, _-_, _*_, _<_}
+use mathlib.Core.Path.{_≡_, refl, sym, ap, _∙_}
 use mathlib.Core.List.{List, [], _∷_, _++_, append-nil, append-assoc}
 use native.Mathlib.Nat.{suc-mul, zero-mul, add-sub-cancel-left}
 use native.Mathlib.Numerals.{add-one}
 use native.Mathlib.Omega.{arith}
-use borrow.Rule.Slice.PartMut.{putMid}
-use lib.ListN.{length, getD, set, drop, replicate, List·getD-map}
-use lib.Seq.{drop-length, take-at, drop-at, drop-drop, drop-set-lt}
+use borrow.Rule.Slice.PartMut.{midOf, putMid}
+use lib.ListN.{length, getD, set, length-replicate, replicate-append-replicate, List·getD-map}
+use lib.Seq.{take-at, drop-at}
 use Rattle.gateway.specs.declared.Msg.{Msg}
 use Rattle.ring.specs.Ring.{queueOf}
 use Rattle.ring.specs.Gateways.{starting, procAt, started}
-use Rattle.words.specs.Layout.{
-  countPlace,
-  capacityPlace,
-  tableHead,
-  identPlace,
-  dPlace,
-  recordWidth,
-  recordPlace,
-  tableLength,
-}
+use Rattle.words.specs.Layout.{countPlace, capacityPlace, recordWidth, recordPlace, tableLength}
 use Rattle.words.specs.Table.{slotWords, recordWords, blocks, tableWords}
 use Rattle.words.proofs.Blocks.{length-blocks, blocks-same, blocks-more}
 use Rattle.words.proofs.Records.{length-record}
 use Rattle.words.proofs.Tables.{past-head}
+use Rattle.table.specs.Inside.{zeros, startWords}
 
 -- one record --
 
-no-slots : (c : ℕ) → slotWords c [] ≡ replicate (2 * c) 0
+no-slots : (c : ℕ) → slotWords c [] ≡ zeros (2 * c)
 no-slots zero = refl
 no-slots (suc c) =
     let two : 2 * suc c ≡ suc (suc (2 * c)) = omega arith in
     rw two (ap (λ (t : List ℕ). 0 ∷ 0 ∷ t) (no-slots c))
 
--- zeros over a whole record, and its identity stored twice, are a starting process and an empty queue
-pub record-laid : (t r : List ℕ) (i x c : ℕ) → r ≡ replicate i 0 ++ drop i t → i ≡ length t → length t ≡ recordWidth c →
-    set (set r identPlace x) dPlace x ≡ recordWords c (starting x) []
+-- a record of zeros with its identity stored is a starting process and an empty queue
+record-laid : (c x : ℕ) → startWords (zeros (recordWidth c)) x ≡ recordWords c (starting x) []
 unfolding recordWords
-record-laid t r i x c e whole wide =
-    let six : length t ≡ suc (suc (suc (suc (suc (suc (2 * c)))))) = omega arith in
-    rw (e, whole, drop-length t, append-nil {A = ℕ} (replicate (length t) 0), six, no-slots c)
+record-laid c x =
+    let six : recordWidth c ≡ suc (suc (suc (suc (suc (suc (2 * c)))))) = omega arith in
+    rw (six, no-slots c)
 
 -- one record behind the other --
 
@@ -49,49 +40,73 @@ module _ (ids : List ℕ) (c : ℕ) where
   abbrev laidRecord : ℕ → List ℕ
   laidRecord j = recordWords c (starting (getD ids j 0)) []
 
-  -- the head and the first j records laid, the words behind them as in t
-  unfoldable pub laid : List ℕ → ℕ → List ℕ
-  laid t j = length ids ∷ c ∷ (blocks j laidRecord ++ drop (recordPlace c j) t)
+  -- the head and the first j records laid, zeros for the others
+  unfoldable pub laid : ℕ → List ℕ
+  laid j = length ids ∷ c ∷ (blocks j laidRecord ++ zeros ((length ids - j) * recordWidth c))
 
   laid-wide : (j : ℕ) → length (blocks j laidRecord) ≡ j * recordWidth c
   laid-wide j =
       length-blocks (recordWidth c) j laidRecord (λ i. length-record c (starting (getD ids i 0)) [])
 
   -- the head stored
-  pub laid-none : (t : List ℕ) → tableHead ≤ length t →
-      set (set t countPlace (length ids)) capacityPlace c ≡ laid (set (set t countPlace (length ids)) capacityPlace c) 0
+  pub laid-none : set (set (zeros (tableLength (length ids) c)) countPlace (length ids)) capacityPlace c ≡ laid 0
   unfolding laid
-  laid-none [] h = absurd (omega arith)
-  laid-none (x ∷ []) h = absurd (omega arith)
-  laid-none (x ∷ y ∷ t) h = rw (past-head c 0, zero-mul (recordWidth c))
+  laid-none =
+      let all : length ids - 0 ≡ length ids = omega arith in
+      rw (past-head c (length ids), all)
 
-  -- the next record, lent and back
-  pub laid-more : (t₀ t r : List ℕ) (j a w : ℕ) → a ≡ recordPlace c j → w ≡ recordWidth c → t ≡ laid t₀ j →
-      r ≡ laidRecord j → putMid a (a + w - a) t r ≡ laid t₀ (j + 1)
-  unfolding laid
-  laid-more t₀ t r j a w at wide e er =
-      let v = recordWidth c in
-      let B = blocks j laidRecord in
-      let rest = drop (suc (suc (j * v))) t₀ in
-      let on : suc j * v ≡ j * v + v = suc-mul j v in
-      let beyond : suc (suc (j * v)) + v ≡ suc (suc (j * v + v)) = omega arith in
-      rw (
-        add-sub-cancel-left a w,
-        wide,
-        at,
-        e,
-        past-head c j,
-        take-at B rest (j * v) (laid-wide j),
-        drop-at B rest (j * v) (laid-wide j),
-        drop-drop v (suc (suc (j * v))) t₀,
-        add-one,
-        past-head c (suc j),
-        on,
-        blocks-more j laidRecord,
-        er,
-        append-assoc B (laidRecord j) (drop (suc (suc (j * v + v))) t₀),
-        beyond,
-      )
+  -- record j, where it is next
+  module _ (j : ℕ) (more : j < length ids) where
+    abbrev later : List ℕ
+    later = zeros ((length ids - suc j) * recordWidth c)
+
+    zeros-next : zeros ((length ids - j) * recordWidth c) ≡ zeros (recordWidth c) ++ later
+    zeros-next =
+        let left = length ids - suc j in
+        let one : length ids - j ≡ suc left = omega arith in
+        let on : suc left * recordWidth c ≡ recordWidth c + left * recordWidth c =
+        omega (arith, suc-mul left (recordWidth c)) in
+        rw (one, on) (sym (replicate-append-replicate (recordWidth c) (left * recordWidth c) 0))
+
+    module _ (t : List ℕ) (a w : ℕ) (at : a ≡ recordPlace c j) (wide : w ≡ recordWidth c) (e : t ≡ laid j) where
+      -- its words are zeros
+      next-zeros : midOf a (a + w - a) t ≡ zeros (recordWidth c)
+      unfolding laid
+      next-zeros =
+          rw (
+            add-sub-cancel-left a w,
+            wide,
+            at,
+            e,
+            past-head c j,
+            drop-at (blocks j laidRecord) _ (j * recordWidth c) (laid-wide j),
+            zeros-next,
+          )
+          (take-at (zeros (recordWidth c)) later (recordWidth c) (length-replicate (recordWidth c) 0))
+
+      -- it is lent, laid, and back
+      pub laid-more : (r : List ℕ) → r ≡ startWords (midOf a (a + w - a) t) (getD ids j 0) →
+          putMid a (a + w - a) t r ≡ laid (j + 1)
+      unfolding laid
+      laid-more r er =
+          let v = recordWidth c in
+          let B = blocks j laidRecord in
+          let laying : r ≡ laidRecord j = er ∙ rw next-zeros (record-laid c (getD ids j 0)) in
+          rw (
+            add-sub-cancel-left a w,
+            wide,
+            at,
+            e,
+            past-head c j,
+            zeros-next,
+            take-at B (zeros v ++ later) (j * v) (laid-wide j),
+            drop-at B (zeros v ++ later) (j * v) (laid-wide j),
+            drop-at (zeros v) later v (length-replicate v 0),
+            laying,
+            add-one,
+            blocks-more j laidRecord,
+            append-assoc B (laidRecord j) later,
+          )
 
   -- a laid record is that of the started ring
   record-started : (j : ℕ) → laidRecord j ≡ recordWords c (procAt (started ids) j) (queueOf (started ids) j)
@@ -99,14 +114,14 @@ module _ (ids : List ℕ) (c : ℕ) where
   record-started j = rw (List·getD-map starting ids j 0, List·getD-map {B = List Msg} (λ i. []) ids j 0)
 
   -- all records laid
-  pub laid-all : (t : List ℕ) →
-      laid (set (set t countPlace (length ids)) capacityPlace c) (length ids)
-      ≡ tableWords (length ids) c (started ids) ++ drop (tableLength (length ids) c) t
+  pub laid-all : laid (length ids) ≡ tableWords (length ids) c (started ids)
   unfolding laid tableWords
-  laid-all t =
+  laid-all =
       let n = length ids in
+      let none : n - n ≡ 0 = omega arith in
       rw (
-        drop-set-lt (tableLength n c) (set t countPlace n) capacityPlace c (omega arith),
-        drop-set-lt (tableLength n c) t countPlace n (omega arith),
+        none,
+        zero-mul (recordWidth c),
+        append-nil (blocks n laidRecord),
         blocks-same n laidRecord _ (λ j h. record-started j),
       )

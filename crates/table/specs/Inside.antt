@@ -4,7 +4,7 @@ use mathlib.Core.Path.{_≡_}
 use mathlib.Core.Bool.{Bool, true, cond}
 use mathlib.Core.List.{List, [], _∷_, _++_}
 use borrow.Rule.Slice.PartMut.{putMid}
-use lib.ListN.{length, getD, take, drop, set}
+use lib.ListN.{length, getD, take, drop, set, replicate}
 use lib.Dec.{eqb, leb}
 use Rattle.refusal.specs.declared.Refusal.the-variants.{NoProcess, Empty, Full, WrongKind, Over}
 use Rattle.refusal.specs.declared.Answer.{Answer}
@@ -21,6 +21,7 @@ use Rattle.ring.specs.Gateways.{gateways, isIn}
 use Rattle.words.specs.Layout.{
   mostProcesses,
   mostCapacity,
+  identPlace,
   statePlace,
   dPlace,
   ePlace,
@@ -37,7 +38,15 @@ use Rattle.words.specs.Table.{countOf, capacityOf, ringOf, lengthOf}
 use Rattle.words.specs.WellFormed.{wellFormed}
 use Rattle.words.specs.Outcomes.{rewritten}
 
+-- n words, all zero
+abbrev pub zeros : ℕ → List ℕ
+zeros n = replicate n 0
+
 -- one record --
+
+-- the identity x stored, and as d
+abbrev pub startWords : List ℕ → ℕ → List ℕ
+startWords r x = set (set r identPlace x) dPlace x
 
 -- its oldest message, where there is one
 abbrev pub oldestOf : List ℕ → Msg

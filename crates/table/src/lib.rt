@@ -39,7 +39,7 @@ pub fn start(table: &mut [u32], ids: &[u32], c: u32) -> Answer
             if i < n {
                 return Answer::Refused(Refusal::Repeated(i as u32));
             }
-            starting::lay(table, ids, c);
+            starting::lay(&mut table[..taken], ids, c);
             Answer::Done
         }
     }

@@ -21,7 +21,8 @@ pub enum Reading {
     Refused(Refusal),
 }
 
-// A reading in document 01's numbers; number 0 with place 0 is a message.
+// A reading in document 01's numbers; number 0 with place 0 is a message. Laid out as C's thk_frame.
+#[repr(C)]
 pub struct ReadTold {
     pub number: u32,
     pub place: u32,

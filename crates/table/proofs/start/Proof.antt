@@ -3,6 +3,7 @@ use mathlib.Core.Path.{sym, _∙_}
 use native.Mathlib.Omega.{arith}
 use borrow.Author.Needs.{needs}
 use lib.ListN.{length}
+use lib.Seq.{length-take-le}
 use Rattle.table.proofs.Answers.{size-fits, start-unsized, start-short, start-repeats, start-done}
 use Rattle.table.proofs.start.Statement.{statement}
 use Rattle.table.proofs.start.Tie as tie
@@ -33,13 +34,22 @@ returns-2 c =
     (i .ensures)
     (c .if2 .taken)
 
+-- the part lent is as long as the table
+slice-aggregate-lay : tie.Need-slice-aggregate-lay
+slice-aggregate-lay c =
+    let long = c .before .before .before in
+    let a = long .before .before .before .before .before .before .before .args in
+    let w = long .before .before .taken .given in
+    sym (length-take-le (w .0 .0) (a .table .now) (long .if1 .left))
+
 lay-requires : tie.Need-lay-requires
 lay-requires c κs =
-    let a = c .before .before .before .before .before .before .before .before .before .before .args in
-    let w = c .before .before .before .before .before .taken .given in
-    let size = c .before .before .before .before .before .before .before .size in
+    let long = c .before .before .before in
+    let a = long .before .before .before .before .before .before .before .args in
+    let w = long .before .before .taken .given in
+    let size = long .before .before .before .before .size in
     let f = size-fits (length (a .ids .now)) (a .c) (w .0 .0) (sym (size .ensures) ∙ w .1) in
-    (f .0, omega (arith, f .1, c .before .before .before .if1 .left))
+    (f .0, length-take-le (w .0 .0) (a .table .now) (long .if1 .left) ∙ f .1)
 
 returns-3 : tie.Need-returns-3
 returns-3 c =
@@ -76,6 +86,8 @@ start-spec =
     (λ c κs. search needs)
     cast-t13
     returns-2
+    (λ c. search needs)
+    slice-aggregate-lay
     lay-requires
     returns-3
     (λ c. search needs)

@@ -1,24 +1,21 @@
 -- `frame::kinds::head_of` gives the order and kind that a byte names. Assumes nothing.
 use mathlib.Core.Path.{sym, ap, ap₂, _∙_}
 use borrow.Author.Needs.{needs}
-use Rattle.wire.specs.Frames.{headOf, kindByte}
-use Rattle.wire.proofs.Heads.{head-back, head-none}
+use Rattle.wire.specs.declared.Head.the-variants.{Frame}
+use Rattle.wire.specs.Frames.{headOf}
+use Rattle.wire.proofs.Heads.{head-back}
 use Rattle.frame.proofs.kinds.head_of.Statement.{statement}
 use Rattle.frame.proofs.kinds.head_of.Tie as tie
 
 returns : tie.Need-returns
 returns c =
-    let order = c .before .before .before .order-guess in
-    let kind = c .before .before .kind-guess in
-    sym (head-back (order .result) (kind .result)) ∙ ap headOf (sym (c .before .kind-byte .ensures) ∙ c .if1 .taken)
+    let order = c .before .order-in in
+    let kind = c .kind-in in
+    let (o, k, e) = c .before .before .before .known .ensures .0 (c .before .before .if1 .taken) in
+    ap₂ Frame (order .ensures o k e) (kind .ensures o k e) ∙ sym (ap headOf e ∙ head-back o k)
 
 returns-2 : tie.Need-returns-2
-returns-2 c =
-    let order = c .before .before .before .order-guess in
-    let kind = c .before .before .kind-guess in
-    sym (head-none (c .before .before .before .before .args .byte)
-    (λ o k e. c .if1 .left
-    (c .before .kind-byte .ensures ∙ ap₂ kindByte (order .ensures o k e) (kind .ensures o k e) ∙ sym e)))
+returns-2 c = sym (c .before .known .ensures .1 (c .if1 .left))
 
 pub head-of-spec : {M : Type 1} → statement M
 head-of-spec =

@@ -1,0 +1,50 @@
+/* Rings to measure on: identities and elections drawn from a seed and moved by the peer. */
+#include "rings.h"
+
+#include <string.h>
+
+const struct ring_size ring_sizes[RING_SIZES] = { { 2, 1 }, { 4, 2 }, { 16, 1 }, { 16, 16 } };
+
+/* splitmix64, its upper half. */
+uint32_t drawn(uint64_t *seed)
+{
+    uint64_t z = *seed += UINT64_C(0x9E3779B97F4A7C15);
+    z = (z ^ (z >> 30)) * UINT64_C(0xBF58476D1CE4E5B9);
+    z = (z ^ (z >> 27)) * UINT64_C(0x94D049BB133111EB);
+    return (uint32_t)((z ^ (z >> 31)) >> 32);
+}
+
+static int announced(const uint32_t *table, size_t words)
+{
+    return peer_leads(table, words).some != 0;
+}
+
+int held(struct election *election, struct ring_size size, uint64_t seed)
+{
+    uint32_t table[THK_MOST_WORDS];
+    size_t words = THK_TABLE_WORDS(size.n, size.c);
+    election->size = size;
+    election->words = words;
+    election->steps = 0;
+    for (uint32_t i = 0; i < size.n; i++)
+        election->identities[i] = drawn(&seed);
+    if (peer_start(table, words, election->identities, size.n, size.c).number != THK_DONE)
+        return 0;
+    memcpy(election->start, table, words * sizeof table[0]);
+    for (uint32_t tries = 0; tries < 64 * MOST_STEPS && election->steps < MOST_STEPS; tries++) {
+        uint32_t chosen = drawn(&seed) % size.n;
+        if (peer_step(table, words, chosen).number != THK_DONE)
+            continue;
+        election->choices[election->steps++] = (uint8_t)chosen;
+        if (announced(table, words))
+            return 1;
+    }
+    return 0;
+}
+
+void table_after(const struct election *election, size_t steps, uint32_t *table)
+{
+    memcpy(table, election->start, election->words * sizeof table[0]);
+    for (size_t i = 0; i < steps; i++)
+        peer_step(table, election->words, election->choices[i]);
+}
