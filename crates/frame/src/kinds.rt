@@ -9,7 +9,8 @@ ghost use Prim.Native.Nat.{_+_, _*_, _/_, _%_};
 ghost use Rattle.gateway.specs.declared.Kind.{Kind};
 ghost use Rattle.wire.specs.declared.Order.{Order};
 ghost use Rattle.wire.specs.declared.Head.the-variants.{NoHead};
-ghost use Rattle.wire.specs.Frames.{kindByte, headOf, headFor};
+ghost use Rattle.wire.specs.Frames.{kindByte, headOf, orderFor, headFor};
+ghost use Rattle.frame.specs.Inside.{sentIn};
 
 // The byte that begins an active frame, high byte first.
 const ACTIVE: u8 = 0x41;
@@ -85,18 +86,34 @@ pub fn head_of(byte: u8) -> Head
     Head::NoHead
 }
 
+// The order in which a generation sends, if there is such a generation.
+enum Sent {
+    In(Order),
+    Never,
+}
+
+fn order_for(generation: u32) -> Sent
+    ensures { λ r. ⌜ sentIn r ≡ orderFor generation ⌝ }
+{
+    match generation {
+        1 => Sent::In(Order::High),
+        2 => Sent::In(Order::Low),
+        3 => Sent::In(Order::High),
+        _ => Sent::Never,
+    }
+}
+
 // What begins the frame of a generation and a kind's number.
 pub(crate) fn head_for(generation: u32, kind: u32) -> Head
     ensures { λ r. ⌜ r ≡ headFor generation kind ⌝ }
 {
-    if numbers::LAST_KIND < kind {
-        return Head::NoHead;
-    }
-    let k = numbers::kind_of(kind);
-    match generation {
-        1 => Head::Frame(Order::High, k),
-        2 => Head::Frame(Order::Low, k),
-        3 => Head::Frame(Order::High, k),
-        _ => Head::NoHead,
+    match order_for(generation) {
+        Sent::In(order) => {
+            if numbers::LAST_KIND < kind {
+                return Head::NoHead;
+            }
+            Head::Frame(order, numbers::kind_of(kind))
+        }
+        Sent::Never => Head::NoHead,
     }
 }

@@ -25,7 +25,7 @@ use Rattle.wire.specs.declared.Reading.the-variants.{Message, Refused}
 use Rattle.wire.specs.declared.ReadTold.{ReadTold}
 use Rattle.wire.specs.Bytes.{valueOf}
 use Rattle.wire.specs.Frames.{kindByte, headOf, bodyOf, readOf, readTold, headFor, writeOf}
-use Rattle.wire.proofs.Heads.{head-byte, head-past, head-known, order-sent, order-none}
+use Rattle.wire.proofs.Heads.{head-byte, head-past, head-known, head-never, order-sent, order-none}
 use Rattle.wire.proofs.Outcomes.{
   read-none,
   read-unknown,
@@ -170,7 +170,7 @@ unframed g n u = by-kind (decLe n 1)
   where
     by-kind : Dec (n ≤ 1) → headFor g n ≡ NoHead
     by-kind (no z) = head-past g n (omega arith)
-    by-kind (yes z) = sym (head-known g n (kindOf n) NoHead z refl (rw (order-none g (λ a b. u (a, b, z)))))
+    by-kind (yes z) = head-never g n (order-none g (λ a b. u (a, b, z)))
 
 module _ (out : List ℕ) (g n v : ℕ) where
   writes-no-frame : (HasFrame g n → ⊥) → Writes out g n (told (Answer.Refused NoFrame))

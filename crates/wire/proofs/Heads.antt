@@ -4,6 +4,7 @@ use mathlib.Core.Path.{_≡_, refl, sym}
 use mathlib.Core.Bool.{Bool, true, false, cond}
 use mathlib.Core.List.{List, [], _∷_}
 use mathlib.Core.Option.{none, some}
+use native.Mathlib.Decide.{decLe}
 use native.Mathlib.Omega.{arith}
 use borrow.Author.Tests.{eqb-true, ne-eqb, lt-ltb, le-ltb}
 use lib.Dec.{eqb}
@@ -55,6 +56,14 @@ head-past g n h = rw (lt-ltb lastKind n h)
 pub head-known : (g n : ℕ) (k : Kind) (h : Head) → n ≤ lastKind → k ≡ kindOf n → h ≡ headIn (orderFor g) k →
     h ≡ headFor g n
 head-known g n k h l e q = rw (le-ltb lastKind n l, ← e) q
+
+-- what is sent in no order is in no frame, of whatever kind
+pub head-never : (g n : ℕ) → orderFor g ≡ none → headFor g n ≡ NoHead
+head-never g n e = go (decLe n lastKind)
+  where
+    go : Dec (n ≤ lastKind) → headFor g n ≡ NoHead
+    go (yes h) = sym (head-known g n (kindOf n) NoHead h refl (rw e))
+    go (no h) = head-past g n (omega arith)
 
 -- a generation that sends in an order has a frame of every kind
 pub head-for : (g : ℕ) (o : Order) (k : Kind) → orderFor g ≡ some o → headFor g (kindNumber k) ≡ Frame o k
