@@ -1,5 +1,5 @@
 -- The bytes that begin a frame, with the order's bit and without it. Assumes nothing.
-use Prim.Native.Nat.{ℕ, _+_, _*_, _/_, _%_, _≤_, _<_}
+use Prim.Native.Nat.{ℕ, _≤_, _<_}
 use mathlib.Core.Path.{_≡_, refl, ap, _∙_}
 use native.Mathlib.Decide.{decLe}
 use native.Mathlib.Omega.{arith}
@@ -10,13 +10,10 @@ use Rattle.wire.specs.declared.Order.the-variants.{High, Low}
 use Rattle.wire.specs.declared.Head.the-variants.{NoHead}
 use Rattle.wire.specs.Frames.{kindByte, headOf}
 use Rattle.wire.proofs.Heads.{head-none}
-
--- a byte without the order's bit
-abbrev pub rest : ℕ → ℕ
-rest b = b / 64 * 64 + b % 32
+use Rattle.frame.specs.Inside.{withoutOrder}
 
 -- one of two neighbours without the order's bit, a byte begins a frame
-pub rest-known : (b : ℕ) → 0x41 ≤ rest b → rest b ≤ 0x42 → (o : Order) × (k : Kind) × (b ≡ kindByte o k)
+pub rest-known : (b : ℕ) → 0x41 ≤ withoutOrder b → withoutOrder b ≤ 0x42 → (o : Order) × (k : Kind) × (b ≡ kindByte o k)
 rest-known b l h = go (decLe b 0x41) (decLe b 0x42) (decLe b 0x61)
   where
     go : Dec (b ≤ 0x41) → Dec (b ≤ 0x42) → Dec (b ≤ 0x61) → (o : Order) × (k : Kind) × (b ≡ kindByte o k)
@@ -26,7 +23,7 @@ rest-known b l h = go (decLe b 0x41) (decLe b 0x42) (decLe b 0x61)
     go (no x) (no y) (no z) = (Low, Passive, omega arith)
 
 -- the byte that begins a frame is one of the two without the order's bit, by its kind
-pub known-rest : (o : Order) (k : Kind) → rest (kindByte o k) ≡ kindByte High k
+pub known-rest : (o : Order) (k : Kind) → withoutOrder (kindByte o k) ≡ kindByte High k
 known-rest High Active = refl
 known-rest High Passive = refl
 known-rest Low Active = refl
@@ -37,8 +34,8 @@ neighbours : (k : Kind) → (0x41 ≤ kindByte High k) × (kindByte High k ≤ 0
 neighbours Active = (omega arith, omega arith)
 neighbours Passive = (omega arith, omega arith)
 
-pub rest-below : (b : ℕ) → rest b < 0x41 → headOf b ≡ NoHead
-rest-below b h = head-none b (λ o k e. omega (arith, neighbours k .0, ap rest e ∙ known-rest o k))
+pub rest-below : (b : ℕ) → withoutOrder b < 0x41 → headOf b ≡ NoHead
+rest-below b h = head-none b (λ o k e. omega (arith, neighbours k .0, ap withoutOrder e ∙ known-rest o k))
 
-pub rest-above : (b : ℕ) → 0x42 < rest b → headOf b ≡ NoHead
-rest-above b h = head-none b (λ o k e. omega (arith, neighbours k .1, ap rest e ∙ known-rest o k))
+pub rest-above : (b : ℕ) → 0x42 < withoutOrder b → headOf b ≡ NoHead
+rest-above b h = head-none b (λ o k e. omega (arith, neighbours k .1, ap withoutOrder e ∙ known-rest o k))

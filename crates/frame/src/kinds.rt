@@ -5,12 +5,11 @@ use wire::Head;
 use wire::Order;
 ghost use mathlib.Core.Path.{_≡_};
 ghost use mathlib.Core.Bool.{true, false};
-ghost use Prim.Native.Nat.{_+_, _*_, _/_, _%_};
 ghost use Rattle.gateway.specs.declared.Kind.{Kind};
 ghost use Rattle.wire.specs.declared.Order.{Order};
 ghost use Rattle.wire.specs.declared.Head.the-variants.{NoHead};
 ghost use Rattle.wire.specs.Frames.{kindByte, headOf, orderFor, headFor};
-ghost use Rattle.frame.specs.Inside.{sentIn};
+ghost use Rattle.frame.specs.Inside.{withoutOrder, sentIn};
 
 // The byte that begins an active frame, high byte first.
 const ACTIVE: u8 = 0x41;
@@ -37,7 +36,7 @@ pub(crate) fn kind_byte(order: Order, kind: Kind) -> u8
 
 // A byte without the order's bit.
 fn without_order(byte: u8) -> u8
-    ensures { λ r. ⌜ r ≡ byte / 64 * 64 + byte % 32 ⌝ }
+    ensures { λ r. ⌜ r ≡ withoutOrder byte ⌝ }
 {
     byte / (2 * LOW_FIRST) * (2 * LOW_FIRST) + byte % LOW_FIRST
 }

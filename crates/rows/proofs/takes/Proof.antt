@@ -18,19 +18,23 @@ use Rattle.rows.proofs.takes.Tie as tie
 not-true : false ≡ true → ⊥
 not-true e = let y : _≡_ {A = ℕ} 0 1 = cc in omega arith
 
--- the bit of a state's number
-bit : (s : State) (n : ℕ) → n ≡ stateNumber s → (p : Proc) → eqb (26 / 2 ^ n % 2) 1 ≡ true → rowIn s p ≡ Takes
-bit Sends n e p h = absurd (not-true (rw e at h))
-bit Listens n e p h = refl
-bit Compares n e p h = absurd (not-true (rw e at h))
-bit Decides n e p h = refl
-bit Relays n e p h = refl
-bit Carries n e p h = absurd (not-true (rw e at h))
-bit Leads n e p h = absurd (not-true (rw e at h))
+-- where the states that do not take have no bit, a state with a bit takes
+module _ (bits : ℕ) (zero : bits / 2 ^ 0 % 2 ≡ 0) (two : bits / 2 ^ 2 % 2 ≡ 0) (five : bits / 2 ^ 5 % 2 ≡ 0)
+    (six : bits / 2 ^ 6 % 2 ≡ 0) where
+  bit-takes : (s : State) (n : ℕ) → n ≡ stateNumber s → (p : Proc) → eqb (bits / 2 ^ n % 2) 1 ≡ true → rowIn s p ≡ Takes
+  bit-takes Sends n e p h = absurd (not-true (rw (e, zero) at h))
+  bit-takes Listens n e p h = refl
+  bit-takes Compares n e p h = absurd (not-true (rw (e, two) at h))
+  bit-takes Decides n e p h = refl
+  bit-takes Relays n e p h = refl
+  bit-takes Carries n e p h = absurd (not-true (rw (e, five) at h))
+  bit-takes Leads n e p h = absurd (not-true (rw (e, six) at h))
 
 fits : tie.Need-shr-result
 fits c = omega (arith, c .state-number .ensures, state-small (c .before .args .s))
 
+returns : tie.Need-returns
+returns c = bit-takes _ refl refl refl refl (c .before .args .s) _ (c .state-number .ensures)
+
 pub takes-spec : {M : Type 1} → statement M
-takes-spec =
-    tie.close (tie.spec (λ c κs. search needs) fits (λ c. bit (c .before .args .s) _ (c .state-number .ensures)))
+takes-spec = tie.close (tie.spec (λ c κs. search needs) fits returns)

@@ -8,7 +8,8 @@ use Rattle.gateway.specs.declared.Kind.the-variants.{Passive, Active}
 use Rattle.wire.specs.declared.Order.{Order}
 use Rattle.wire.specs.declared.Order.the-variants.{High}
 use Rattle.wire.specs.Frames.{kindByte}
-use Rattle.frame.proofs.KindBytes.{rest, known-rest}
+use Rattle.frame.specs.Inside.{withoutOrder}
+use Rattle.frame.proofs.KindBytes.{known-rest}
 use Rattle.frame.proofs.kinds.kind_in.Statement.{statement}
 use Rattle.frame.proofs.kinds.kind_in.Tie as tie
 
@@ -21,10 +22,10 @@ other r h Active e = absurd (h e)
 other r h Passive e = refl
 
 returns : tie.Need-returns
-returns c = λ o k e. first _ (c .if1 .taken) k (c .before .without-order .ensures ∙ ap rest e ∙ known-rest o k)
+returns c = λ o k e. first _ (c .if1 .taken) k (c .before .without-order .ensures ∙ ap withoutOrder e ∙ known-rest o k)
 
 returns-2 : tie.Need-returns-2
-returns-2 c = λ o k e. other _ (c .if1 .left) k (c .before .without-order .ensures ∙ ap rest e ∙ known-rest o k)
+returns-2 c = λ o k e. other _ (c .if1 .left) k (c .before .without-order .ensures ∙ ap withoutOrder e ∙ known-rest o k)
 
 pub kind-in-spec : {M : Type 1} → statement M
 kind-in-spec = tie.close (tie.spec (λ c κs. search needs) returns returns-2)
