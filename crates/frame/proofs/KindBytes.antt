@@ -12,30 +12,39 @@ use Rattle.wire.specs.Frames.{kindByte, headOf}
 use Rattle.wire.proofs.Heads.{head-none}
 use Rattle.frame.specs.Inside.{withoutOrder}
 
--- one of two neighbours without the order's bit, a byte begins a frame
-pub rest-known : (b : ℕ) → 0x41 ≤ withoutOrder b → withoutOrder b ≤ 0x42 → (o : Order) × (k : Kind) × (b ≡ kindByte o k)
-rest-known b l h = go (decLe b 0x41) (decLe b 0x42) (decLe b 0x61)
+-- a byte that is one of the two neighbours, without the order's bit, begins a frame
+pub neighbour-known : (b : ℕ) → kindByte High Active ≤ withoutOrder b → withoutOrder b ≤ kindByte High Passive →
+    (o : Order) × (k : Kind) × (b ≡ kindByte o k)
+neighbour-known b l h =
+    go (decLe b (kindByte High Active)) (decLe b (kindByte High Passive)) (decLe b (kindByte Low Active))
   where
-    go : Dec (b ≤ 0x41) → Dec (b ≤ 0x42) → Dec (b ≤ 0x61) → (o : Order) × (k : Kind) × (b ≡ kindByte o k)
+    go : Dec (b ≤ kindByte High Active) → Dec (b ≤ kindByte High Passive) → Dec (b ≤ kindByte Low Active) →
+        (o : Order) × (k : Kind) × (b ≡ kindByte o k)
     go (yes x) y z = (High, Active, omega arith)
     go (no x) (yes y) z = (High, Passive, omega arith)
     go (no x) (no y) (yes z) = (Low, Active, omega arith)
     go (no x) (no y) (no z) = (Low, Passive, omega arith)
 
--- the byte that begins a frame is one of the two without the order's bit, by its kind
-pub known-rest : (o : Order) (k : Kind) → withoutOrder (kindByte o k) ≡ kindByte High k
-known-rest High Active = refl
-known-rest High Passive = refl
-known-rest Low Active = refl
-known-rest Low Passive = refl
+-- a byte that begins a frame is, without the order's bit, the neighbour of its kind
+pub known-neighbour : (o : Order) (k : Kind) → withoutOrder (kindByte o k) ≡ kindByte High k
+known-neighbour High Active = refl
+known-neighbour High Passive = refl
+known-neighbour Low Active = refl
+known-neighbour Low Passive = refl
 
--- so below them and above them no byte begins a frame
-neighbours : (k : Kind) → (0x41 ≤ kindByte High k) × (kindByte High k ≤ 0x42)
-neighbours Active = (omega arith, omega arith)
-neighbours Passive = (omega arith, omega arith)
+active-first : (k : Kind) → kindByte High Active ≤ kindByte High k
+active-first Active = omega arith
+active-first Passive = omega arith
 
-pub rest-below : (b : ℕ) → withoutOrder b < 0x41 → headOf b ≡ NoHead
-rest-below b h = head-none b (λ o k e. omega (arith, neighbours k .0, ap withoutOrder e ∙ known-rest o k))
+passive-last : (k : Kind) → kindByte High k ≤ kindByte High Passive
+passive-last Active = omega arith
+passive-last Passive = omega arith
 
-pub rest-above : (b : ℕ) → 0x42 < withoutOrder b → headOf b ≡ NoHead
-rest-above b h = head-none b (λ o k e. omega (arith, neighbours k .1, ap withoutOrder e ∙ known-rest o k))
+-- below them and above them no byte begins a frame
+pub below-unknown : (b : ℕ) → withoutOrder b < kindByte High Active → headOf b ≡ NoHead
+below-unknown b h =
+    head-none b (λ o k e. omega (arith, active-first k, ap withoutOrder e ∙ known-neighbour o k))
+
+pub above-unknown : (b : ℕ) → kindByte High Passive < withoutOrder b → headOf b ≡ NoHead
+above-unknown b h =
+    head-none b (λ o k e. omega (arith, passive-last k, ap withoutOrder e ∙ known-neighbour o k))

@@ -13,9 +13,9 @@ ghost use Rattle.frame.specs.Inside.{withoutOrder, sentIn};
 
 // The byte that begins an active frame, high byte first.
 const ACTIVE: u8 = 0x41;
-// A passive one.
+// The byte that begins a passive one.
 const PASSIVE: u8 = 0x42;
-// The bit that it has more where the low byte comes first.
+// The bit that either byte has more where the low byte comes first.
 const LOW_FIRST: u8 = 0x20;
 
 // The byte that begins a frame of an order and a kind.
@@ -85,12 +85,13 @@ pub fn head_of(byte: u8) -> Head
     Head::NoHead
 }
 
-// The order in which a generation sends, if there is such a generation.
+// The order in which frames are sent, if they are.
 enum Sent {
     In(Order),
     Never,
 }
 
+// The order in which a generation sends.
 fn order_for(generation: u32) -> Sent
     ensures { λ r. ⌜ sentIn r ≡ orderFor generation ⌝ }
 {

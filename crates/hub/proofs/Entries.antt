@@ -53,7 +53,8 @@ use Rattle.wire.proofs.Promises.{refusal-writes-nothing, each-generation-writte
 use Rattle.wire.proofs.GivenWhen.{Reads, Writes, read-exactly, write-exactly}
 use Rattle.hub.specs.declared.ThkRan.{ThkRan}
 use Rattle.hub.specs.declared.ThkLeading.{ThkLeading}
-use Rattle.hub.specs.Edge.{toldOf, ranOf, thkLeading}
+use Rattle.hub.specs.Edge.{toldOf, thkRan, ranOf, thkLeading}
+use Rattle.hub.proofs.Telling.{refused-left}
 
 -- each number is told exactly when document 01 says, and so is the place --
 
@@ -100,24 +101,23 @@ refusal-of : (a : Answer) → 1 ≤ told a .number → (x : Refusal) × (a ≡ R
 refusal-of Done h = absurd (omega arith)
 refusal-of (Refused x) h = (x, refl)
 
--- what a refused outcome leaves, where each refusal leaves the same
-refused-left : (o : Answer × List ℕ) (was : List ℕ) → ((x : Refusal) → o .0 ≡ Refused x → o .1 ≡ was) →
-    (r : Told) (left : List ℕ) → (r, left) ≡ toldOf o → 1 ≤ r .number → left ≡ was
-refused-left o was same r left h n =
-    let (x, e) = refusal-of (o .0) (rw (← ap (λ p. p .0) h) n) in ap (λ p. p .1) h ∙ same x e
-
 pub refused-start-same : (t ids : List ℕ) (c : ℕ) (r : Told) (t′ : List ℕ) →
     (r, t′) ≡ toldOf (startOf t ids c) → 1 ≤ r .number → t′ ≡ t
-refused-start-same t ids c = refused-left (startOf t ids c) t (λ x e. start-refused t ids c x e)
+refused-start-same t ids c =
+    refused-left told (λ r. r .number) (startOf t ids c) t
+    (λ n. let (x, e) = refusal-of (startOf t ids c .0) n in start-refused t ids c x e)
 
 pub refused-step-same : (t : List ℕ) (j : ℕ) (r : Told) (t′ : List ℕ) →
     (r, t′) ≡ toldOf (stepOf t j) → 1 ≤ r .number → t′ ≡ t
-refused-step-same t j = refused-left (stepOf t j) t (λ x e. step-refused t j x e)
+refused-step-same t j =
+    refused-left told (λ r. r .number) (stepOf t j) t
+    (λ n. let (x, e) = refusal-of (stepOf t j .0) n in step-refused t j x e)
 
 pub refused-write-same : (out : List ℕ) (g n v : ℕ) (r : Told) (left : List ℕ) →
     (r, left) ≡ toldOf (writeOf out g n v) → 1 ≤ r .number → left ≡ out
 refused-write-same out g n v =
-    refused-left (writeOf out g n v) out (λ x e. refusal-writes-nothing out g n v x e)
+    refused-left told (λ r. r .number) (writeOf out g n v) out
+    (λ m. let (x, e) = refusal-of (writeOf out g n v .0) m in refusal-writes-nothing out g n v x e)
 
 run-refusal-of : (a : Ran) → 1 ≤ runTold a .number → (x : Refusal) × (a ≡ Ran.Refused x)
 run-refusal-of (Ran.Ended e k s) h = absurd (omega arith)
@@ -125,9 +125,9 @@ run-refusal-of (Ran.Refused x) h = (x, refl)
 
 pub refused-run-same : (t schedule : List ℕ) (budget : ℕ) (r : ThkRan) (t′ : List ℕ) →
     (r, t′) ≡ ranOf (runOf t schedule budget) → 1 ≤ r .number → t′ ≡ t
-refused-run-same t schedule budget r t′ h n =
-    let (x, e) = run-refusal-of (runOf t schedule budget .0) (rw (← ap (λ p. p .0 .number) h) n) in
-    ap (λ p. p .1) h ∙ run-refused t schedule budget x e
+refused-run-same t schedule budget =
+    refused-left thkRan (λ r. r .number) (runOf t schedule budget) t
+    (λ n. let (x, e) = run-refusal-of (runOf t schedule budget .0) n in run-refused t schedule budget x e)
 
 -- no answer is lost in the numbers --
 

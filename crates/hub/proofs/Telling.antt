@@ -1,20 +1,17 @@
 -- An entry's outcome, told. Assumes nothing.
-use Prim.Native.Nat.{ℕ}
+use Prim.Native.Nat.{ℕ, _≤_}
 use mathlib.Core.Path.{_≡_, ap, _∙_}
 use mathlib.Core.List.{List}
-use Rattle.refusal.specs.declared.Answer.{Answer}
-use Rattle.refusal.specs.declared.Told.{Told}
-use Rattle.refusal.specs.Numbered.{told}
-use Rattle.words.specs.declared.Ran.{Ran}
-use Rattle.hub.specs.declared.ThkRan.{ThkRan}
-use Rattle.hub.specs.Edge.{toldOf, thkRan, ranOf}
+use Rattle.hub.specs.Edge.{toldBy}
 
--- an answer that is told, with what it left, is the outcome told
-pub outcome-told : (r : Told) (a : Answer) (left : List ℕ) (o : Answer × List ℕ) →
-    (a, left) ≡ o → r ≡ told a → (r, left) ≡ toldOf o
-outcome-told r a left o h e = ap (λ (x : Told). (x, left)) e ∙ ap toldOf h
+module _ {A B : Type 0} (f : A → B) where
+  -- an answer that is told, with what it left, is the outcome told
+  pub outcome-told : (r : B) (a : A) (left : List ℕ) (o : A × List ℕ) → (a, left) ≡ o → r ≡ f a → (r, left) ≡ toldBy f o
+  outcome-told r a left o h e = ap (λ (x : B). (x, left)) e ∙ ap (toldBy f) h
 
--- the same of a run
-pub run-outcome-told : (r : ThkRan) (a : Ran) (left : List ℕ) (o : Ran × List ℕ) →
-    (a, left) ≡ o → r ≡ thkRan a → (r, left) ≡ ranOf o
-run-outcome-told r a left o h e = ap (λ (x : ThkRan). (x, left)) e ∙ ap ranOf h
+  -- what is left where a number is told that is not 0, if that is the same for every such answer
+  pub refused-left : (number : B → ℕ) (o : A × List ℕ) (was : List ℕ) →
+      (1 ≤ number (f (o .0)) → o .1 ≡ was) →
+      (r : B) (left : List ℕ) → (r, left) ≡ toldBy f o → 1 ≤ number r → left ≡ was
+  refused-left number o was same r left h n =
+      ap (λ x. x .1) h ∙ same (rw (← ap (λ x. x .0) h) n)

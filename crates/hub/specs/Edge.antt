@@ -10,9 +10,13 @@ use Rattle.words.specs.Outcomes.{runTold, leadTold}
 use Rattle.hub.specs.declared.ThkRan.{ThkRan}
 use Rattle.hub.specs.declared.ThkLeading.{ThkLeading}
 
--- of a start, a step or a write: number and place, and what is left in the lent slice
+-- an outcome, its answer told; what is left in the lent slice stays
+abbrev pub toldBy : {A B : Type 0} → (A → B) → A × List ℕ → B × List ℕ
+toldBy f o = (f (o .0), o .1)
+
+-- of a start, a step or a write: number and place
 abbrev pub toldOf : Answer × List ℕ → Told × List ℕ
-toldOf o = (told (o .0), o .1)
+toldOf o = toldBy told o
 
 -- a run's answer; its only refusal has place 0, so that C is given none
 abbrev pub thkRan : Ran → ThkRan
@@ -23,9 +27,9 @@ thkRan a = record {
   skipped = runTold a .skipped;
 }
 
--- of a run: that, and the words left
+-- of a run
 abbrev pub ranOf : Ran × List ℕ → ThkRan × List ℕ
-ranOf o = (thkRan (o .0), o .1)
+ranOf o = toldBy thkRan o
 
 -- who leads: some is 1 where one leads; its only refusal has place 0 too
 abbrev pub thkLeading : Leading → ThkLeading

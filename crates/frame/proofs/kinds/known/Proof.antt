@@ -4,7 +4,7 @@ use mathlib.Core.Path.{_≡_}
 use native.Mathlib.Omega.{arith}
 use borrow.Author.Needs.{needs}
 use borrow.Author.Tests.{leb-true, leb-false}
-use Rattle.frame.proofs.KindBytes.{rest-known, rest-below, rest-above}
+use Rattle.frame.proofs.KindBytes.{neighbour-known, below-unknown, above-unknown}
 use Rattle.frame.proofs.kinds.known.Statement.{statement}
 use Rattle.frame.proofs.kinds.known.Tie as tie
 
@@ -12,15 +12,15 @@ returns : tie.Need-returns
 returns c =
     let r = c .before .without-order in (
       λ e. absurd (let y : _≡_ {A = ℕ} 0 1 = cc in omega arith),
-      λ e. rest-below (c .before .before .args .byte) (rw (← r .ensures) (c .if1 .taken)),
+      λ e. below-unknown (c .before .before .args .byte) (rw (← r .ensures) (c .if1 .taken)),
     )
 
 returns-2 : tie.Need-returns-2
 returns-2 c =
     let r = c .before .without-order in
     let b = c .before .before .args .byte in (
-      λ e. rest-known b (rw (← r .ensures) (c .if1 .left)) (rw (← r .ensures) (leb-true _ _ e)),
-      λ e. rest-above b (rw (← r .ensures) (leb-false _ _ e)),
+      λ e. neighbour-known b (rw (← r .ensures) (c .if1 .left)) (rw (← r .ensures) (leb-true _ _ e)),
+      λ e. above-unknown b (rw (← r .ensures) (leb-false _ _ e)),
     )
 
 pub known-spec : {M : Type 1} → statement M
