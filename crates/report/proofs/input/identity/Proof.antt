@@ -5,50 +5,39 @@ use Rattle.report.proofs.Identity.{identity-none, identity-unknown, ide
 use Rattle.report.proofs.input.identity.Statement.{statement}
 use Rattle.report.proofs.input.identity.Tie as tie
 
--- src/input.rt:25:9
 returns : tie.Need-returns
 returns c = identity-none (c .before .before .args .bytes .now) (c .if1 .taken)
 
--- src/input.rt:27:26
 shared-slice-read-head-of : tie.Need-shared-slice-read-head-of
 shared-slice-read-head-of c = search needs
 
--- src/input.rt:27:11
 head-of-requires : tie.Need-head-of-requires
 head-of-requires c κs = search needs
 
--- src/input.rt:28:25
 enum-told : tie.Need-enum-told
 enum-told c = search needs
 
--- src/input.rt:28:25
 read-requires : tie.Need-read-requires
 read-requires c κs = search needs
 
--- src/input.rt:29:24
 enum-known-kind : tie.Need-enum-known-kind
 enum-known-kind c = search needs
 
--- src/input.rt:30:29
 enum-told-2 : tie.Need-enum-told-2
 enum-told-2 c = search needs
 
--- src/input.rt:30:29
 read-requires-2 : tie.Need-read-requires-2
 read-requires-2 c κs = search needs
 
--- src/input.rt:31:47
 enum-told-3 : tie.Need-enum-told-3
 enum-told-3 c = search needs
 
--- src/input.rt:21:1
 returns-2 : tie.Need-returns-2
 returns-2 c =
     let c3 = c .before .before .before in
     let s = c3 .before .before .before .before .args .bytes .now in
     c .read .ensures ∙ identity-unknown s (c3 .head-of .result) (c3 .head-of .ensures) (c .before .enum-told .given .1)
 
--- src/input.rt:21:1
 returns-3 : tie.Need-returns-3
 returns-3 c =
     let c4 = c .before .before .before .before in
@@ -59,7 +48,6 @@ returns-3 c =
     ∙ identity-active s (c6 .head-of .result) (c6 .head-of .ensures) (named .0 .0) (named .0 .1 .0) (named .1)
     (c .before .enum-told2 .given .1)
 
--- src/input.rt:21:1
 returns-4 : tie.Need-returns-4
 returns-4 c =
     let c3 = c .before .before .before in
