@@ -1,4 +1,4 @@
-/* Slices lent to both parties, each at the begin or at the end of a page that lies between unreadable pages. */
+/* Slices lent to both parties, each at the beginning or at the end of a page that lies between unreadable pages. */
 #define _DEFAULT_SOURCE 1
 #include "lend.h"
 

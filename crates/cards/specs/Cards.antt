@@ -51,6 +51,7 @@ t9 = 1 ∷ 1 ∷ 7 ∷ 0 ∷ 7 ∷ 0 ∷ 0 ∷ 0 ∷ 3 ∷ 0 ∷ []
 abbrev pub ring59 : List ℕ
 ring59 = startOf (lent 18) (5 ∷ 9 ∷ []) 1 .1
 
+-- document 01's cards P1 to P12, a field for each
 pub record Cards : Type 0 where
   -- start 7, c = 1
   pub p1 : inNumbers (startOf (lent 10) (7 ∷ []) 1) ≡ (tell 0 0, t1)
@@ -71,6 +72,7 @@ pub record Cards : Type 0 where
   -- identities 5, 9, 5
   pub p12 : inNumbers (startOf (lent 26) (5 ∷ 9 ∷ 5 ∷ []) 1) ≡ (tell 4 2, lent 26)
 
+-- all of them hold
 pub cards : Cards
 unfolding startOf stepOf wellFormed ringOf tableWords recordWords move started decLt ℕ-discrete
 cards = record {

@@ -6,6 +6,7 @@ pub(crate) const BYTES: usize = 576;
 // How often a process is chosen before the next, where they come in turns: more often than it can move.
 const TURN: usize = 12;
 
+// In which order the processes are chosen.
 pub(crate) enum Order {
     Round,
     Backwards,

@@ -39,7 +39,7 @@ module _ {P M : Type 0} {G : Rules P M} {n : ℕ} (S : Setting G n) where
     pub moves-most : moves G n c (S .start) js ≤ n * F .top + 1
     moves-most = Flows.moves-most r
 
-    -- while nobody wants nothing
+    -- while every process wants something
     pub somebody-moves : 1 ≤ c → ((j : ℕ) → j < n → wants G R j ≢ stays) → (j : ℕ) × CanMove G n c R j
     somebody-moves = Progress.somebody-moves r c
 

@@ -9,6 +9,7 @@ use Rattle.gateway.specs.Row.{proc}
 use Rattle.rounds.specs.Seats.{Seat, holds, passes, Values, isHolding}
 use Rattle.election.proofs.Stages.{Stage, stage, compared, stageAfter}
 
+-- it sends at most two messages in a round
 pub sends-two : (i : ℕ) (s : Seat) (h : Values) (k : ℕ) → stageAfter i s h k .sent ≤ 2
 sends-two i s h zero = omega arith
 sends-two i (holds d e) h (suc zero) = omega arith
@@ -42,6 +43,7 @@ module _ (i : ℕ) (s : Seat) (h : Values) (d e : ℕ) (is : s ≡ holds d e) (o
       go (yes same) = rw own
       go (no other) = absurd (other (sym own))
 
+  -- it sends at most one
   pub sends-one : (k : ℕ) → k < 4 → stageAfter i s h k .sent ≤ 1
   sends-one zero l = omega arith
   sends-one (suc zero) l = rw is (omega arith)

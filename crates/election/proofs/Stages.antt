@@ -24,7 +24,7 @@ pub record Stage : Type 0 where
   pub sent : ℕ
   pub got : ℕ
 
--- this one
+-- a process, with so many sent and got
 abbrev pub stage : Proc → ℕ → ℕ → Stage
 stage p s g = record { process = p; sent = s; got = g }
 

@@ -6,6 +6,7 @@ ghost use Prim.Native.Nat.{ℕ, _≤_};
 ghost use lib.ListN.{length, take, drop};
 ghost use Rattle.wire.specs.Bytes.{wordBytes, number, digits, field, valueOf};
 
+// How many values a byte has.
 const BYTE_VALUES: u32 = 256;
 
 // The bytes of a word, low byte first.

@@ -26,6 +26,7 @@ pub enum Kind {
     Active,
 }
 
+// A message, as a slot of a queue has it.
 pub struct Msg {
     pub value: u32,
     pub kind: Kind,

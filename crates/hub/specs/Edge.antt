@@ -14,7 +14,7 @@ use Rattle.hub.specs.declared.ThkLeading.{ThkLeading}
 abbrev pub toldBy : {A B : Type 0} → (A → B) → A × List ℕ → B × List ℕ
 toldBy f o = (f (o .0), o .1)
 
--- of a start, a step or a write: number and place
+-- the outcome of a start, a step or a write, its answer told as number and place
 abbrev pub toldOf : Answer × List ℕ → Told × List ℕ
 toldOf o = toldBy told o
 
@@ -27,7 +27,7 @@ thkRan a = record {
   skipped = runTold a .skipped;
 }
 
--- of a run
+-- the outcome of a run, its answer told so
 abbrev pub ranOf : Ran × List ℕ → ThkRan × List ℕ
 ranOf o = toldBy thkRan o
 

@@ -20,7 +20,7 @@ step j a b = record { process = j; before = a; after = b }
 abbrev pub mostDigits : ℕ
 mostDigits = 10
 
--- the most bytes of a refusal's line: eight, a number, one
+-- the most bytes of a refusal's line: a word and a space, eight bytes, then a number, then one byte
 abbrev pub refusedRoom : ℕ
 refusedRoom = 9 + mostDigits
 

@@ -130,10 +130,11 @@ module _ {P M : Type 0} (G : Rules P M) (n c : ℕ) (isOver : Ring P M → Bool)
       go false = (endSpent, refl)
 
   module _ (ys : List ℕ) (b : ℕ) (r : Run P M) (within : r .taken ≤ b) (paid : r .end ≡ endSpent → r .taken ≡ b) where
+    -- the second run, with what is left of the budget
     abbrev next : Run P M
     next = run ys (r .ring) (b - r .taken) 0 0
 
-    -- what is left of the budget
+    -- with the counts so far and the whole budget it is that run, counted on
     counts-on : run ys (r .ring) b (r .taken) (r .skipped) ≡ counted (r .taken) (r .skipped) next
     counts-on =
         let whole : r .taken + (b - r .taken) ≡ b = omega arith in

@@ -48,7 +48,7 @@ some-fails P (suc n) e = go (some-fails P n) (allBelow n P) refl e
     go later true q z = (n, omega arith, z)
     go later false q z = let f = later q in (f .0, omega (arith, f .1), f .2)
 
--- an index below fails
+-- where not all below m pass, not all below n do
 pub all-fewer : (P : ℕ → Bool) (m n : ℕ) → m ≤ n → allBelow m P ≡ false → allBelow n P ≡ false
 all-fewer P m n h e = let f = some-fails P m e in all-fails P n (f .0) (omega (arith, f .1)) (f .2)
 

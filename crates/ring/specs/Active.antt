@@ -30,7 +30,7 @@ inRing G wP wM n R = sum (λ j. wP (procOf G R j)) n + sum (λ j. inQueue wM (qu
 abbrev pub flag : ℕ → ℕ → ℕ
 flag v x = ite (ℕ-discrete v x) 1 0
 
--- how often x is an active value of this kind
+-- 1 where v is x and its kind is active
 abbrev pub byKind : ℕ → ℕ → Kind → ℕ
 byKind x v Passive = 0
 byKind x v Active = flag v x

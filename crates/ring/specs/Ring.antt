@@ -48,11 +48,11 @@ module _ {P M : Type 0} where
   abbrev pub queueing : Ring P M → ℕ → List M → Ring P M
   queueing R i q = record { procs = R .procs; queues = set (R .queues) i q }
 
-  -- the message goes behind the others of j's own queue
+  -- the message goes behind the others of j's own queue, and j becomes p
   abbrev pub putting : Ring P M → ℕ → M → P → Ring P M
   putting R j m p = becoming (queueing R j (queueOf R j ++ (m ∷ []))) j p
 
-  -- queue i is left with q
+  -- queue i is left with q, and j becomes p
   abbrev pub taking : Ring P M → ℕ → ℕ → List M → P → Ring P M
   taking R j i q p = becoming (queueing R i q) j p
 

@@ -15,7 +15,7 @@ use Rattle.rounds.proofs.Origins.{Holder, holder, alone}
 abbrev pub HolderIn : Contest → ℕ → Type 0
 HolderIn K r = Holder (K .size) (seatIn K r)
 
--- this one
+-- seat j, which holds d in round r
 abbrev pub holderIn : (K : Contest) (r j d e : ℕ) → j < K .size → seatIn K r j ≡ holds d e → HolderIn K r
 holderIn K r j d e l is = holder (K .size) (seatIn K r) j d e l is
 

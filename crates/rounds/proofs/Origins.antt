@@ -23,7 +23,7 @@ module _ (n : ℕ) (f : ℕ → Seat) where
     pub e : ℕ
     pub is : f seat ≡ holds d e
 
-  -- this one
+  -- seat j, which holds d
   abbrev pub holder : (j d e : ℕ) → j < n → f j ≡ holds d e → Holder
   holder j d e l is = record { seat = j; below = l; d = d; e = e; is = is }
 

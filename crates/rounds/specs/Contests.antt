@@ -24,6 +24,6 @@ heardIn K r j = hears (K .size) (seatIn K r) j
 abbrev pub holdingIn : Contest → ℕ → ℕ
 holdingIn K r = sum (λ j. isHolding (seatIn K r j)) (K .size)
 
--- the rounds before one is left: the first in which one holds a value
+-- how many rounds it takes: the number of the first in which one seat alone holds a value
 abbrev pub roundsOf : Contest → ℕ
 roundsOf K = firstBelow (K .size) (λ r. eqb (holdingIn K r) 1)

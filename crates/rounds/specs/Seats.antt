@@ -10,7 +10,7 @@ pub record Values : Type 0 where
   pub first : ℕ
   pub second : ℕ
 
--- these two
+-- x first, y second
 abbrev pub values : ℕ → ℕ → Values
 values x y = record { first = x; second = y }
 

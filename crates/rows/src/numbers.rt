@@ -4,6 +4,7 @@ use gateway::State;
 ghost use mathlib.Core.Path.{_≡_};
 ghost use Rattle.gateway.specs.Numbers.{stateNumber, stateOf, kindNumber, kindOf};
 
+// Document 01's number of a state.
 pub fn state_number(s: State) -> u32
     ensures { λ r. ⌜ r ≡ stateNumber s ⌝ }
 {
@@ -39,6 +40,7 @@ pub const LAST_STATE: u32 = 6;
 // The largest number of a kind.
 pub const LAST_KIND: u32 = 1;
 
+// Document 01's number of a kind.
 pub fn kind_number(k: Kind) -> u32
     ensures { λ r. ⌜ r ≡ kindNumber k ⌝ }
 {

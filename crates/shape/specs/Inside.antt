@@ -3,6 +3,6 @@ use Prim.Native.Nat.{ℕ, _+_, _*_}
 use mathlib.Core.List.{List}
 use lib.ListN.{getD}
 
--- the word k times w on from a
+-- word k of those that stand w apart, from a on
 abbrev pub spaced : List ℕ → ℕ → ℕ → ℕ → ℕ
 spaced s a w k = getD s (a + k * w) 0

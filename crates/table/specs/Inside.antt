@@ -44,7 +44,7 @@ zeros n = replicate n 0
 
 -- one record --
 
--- the identity x stored, and as d
+-- x stored as the identity and as d
 abbrev pub startWords : List ℕ → ℕ → List ℕ
 startWords r x = set (set r identPlace x) dPlace x
 

@@ -28,7 +28,7 @@ fn lay_record(rec: &mut [u32], x: u32)
     rec[places::D] = x;
 }
 
-// The head, and a record for each identity, in a slice of just the table's words.
+// The head, and a record for each identity, in a slice of the table's length.
 pub(crate) fn lay(table: &mut [u32], ids: &[u32], c: u32)
     requires { ⌜ (length (now ids) ≤ mostProcesses) × (length (now table) ≡ tableLength (length (now ids)) c) ⌝ }
     ensures { λ _. ⌜ now (table .exit) ≡ tableWords (length (now (ids .entry))) c (started (now (ids .entry))) ⌝ }

@@ -23,7 +23,7 @@ unfolding digitsIn
 none-of-zero zero = refl
 none-of-zero (suc f) = refl
 
--- and of no number within none
+-- and with a bound of 0 there is none of any number
 none-within : (n : ℕ) → digitsIn zero n ≡ []
 unfolding digitsIn
 none-within n = refl

@@ -141,12 +141,12 @@ enough-used m s headed long =
     front textOf m s
     (λ all. text-more (take m s) (drop m s) (omega arith) (rw same (λ few. omega (arith, long few))))
 
--- the bench program reads no more than this of its standard input
+-- the longest input that is used is enough, so the bench program reads no more of its standard input
 pub rest-ignored : (s : List ℕ) → textOf (take mostInput s) ≡ textOf s
 rest-ignored s =
     enough-used mostInput s (omega arith) (λ few. omega (arith, mul-le-mul-right (frameLength Active) few))
 
--- and of an input that asks for a ring of n no more than the header, n frames, the schedule
+-- and so are, of an input that asks for a ring of n, the header, n frames and the schedule
 pub ring-rest-ignored : (s : List ℕ) (n c : ℕ) → askedOf s ≡ Asked.Ring n c → textOf (take (used n) s) ≡ textOf s
 ring-rest-ignored s n c e =
     enough-used (used n) s (omega arith) (λ few. rw (asked-ring s n c e .1) (omega arith))

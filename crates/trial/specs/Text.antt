@@ -26,7 +26,7 @@ unfoldable pub digitsIn : ℕ → ℕ → List ℕ
 digitsIn zero n = []
 digitsIn (suc f) n = cond (eqb n 0) [] (digitsIn f (n / 10) ++ (digit (n % 10) ∷ []))
 
--- n in decimal, with no zero in front: its last digit behind those of a tenth of it, of which it has fewer than n
+-- n in decimal, with no zero in front: its last digit behind those of a tenth of it, of which there are at most n
 abbrev pub decimal : ℕ → List ℕ
 decimal n = digitsIn n (n / 10) ++ (digit (n % 10) ∷ [])
 

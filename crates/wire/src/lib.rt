@@ -1,4 +1,4 @@
-// A message as bytes: a byte of kind, then a body in the byte order that the kind fixes.
+// A message as bytes: a kind byte, then a body in the order that this byte names. Types, definitions and laws, no code.
 use gateway::Kind;
 use gateway::Msg;
 use refusal::Refusal;

@@ -67,6 +67,7 @@ ended-formed t schedule budget e k s t′ h =
         let n : _≡_ {A = ℕ} 0 1 = cc in
         absurd (omega arith)
 
+-- on a well-formed table a run ends where its ring's run does
 pub run-is : (t schedule : List ℕ) (budget : ℕ) → wellFormed t ≡ true →
     runOf t schedule budget ≡ ending t schedule (ringOf t) budget 0 0
 unfolding runOf

@@ -32,6 +32,7 @@ move-fits n c R j R′ f e =
     )
 
 module _ (t : List ℕ) (ok : wellFormed t ≡ true) where
+  -- its ring fits
   pub fits : Fits (countOf t) (capacityOf t) (ringOf t)
   fits = let s = formed-sound t ok in (s .good, s .distinct)
 
@@ -49,7 +50,7 @@ module _ (t : List ℕ) (ok : wellFormed t ≡ true) where
       go (refused x) e = ok
       go (made R) e = rewritten-formed R (move-fits (countOf t) (capacityOf t) (ringOf t) j R fits e)
 
-  -- and so does a run
+  -- the ring that a run comes to fits,
   pub run-fits : (schedule : List ℕ) (budget : ℕ) →
       Fits (countOf t) (capacityOf t) (running (countOf t) (capacityOf t) schedule (ringOf t) budget 0 0 .ring)
   run-fits schedule budget =
@@ -57,6 +58,7 @@ module _ (t : List ℕ) (ok : wellFormed t ≡ true) where
       let c = capacityOf t in
       run-keeps gateways n c (hasLeader n) (Fits n c) (move-fits n c) schedule (ringOf t) budget 0 0 fits
 
+  -- so a run leaves the table well-formed too
   pub run-formed : (schedule : List ℕ) (budget : ℕ) → wellFormed (runOf t schedule budget .1) ≡ true
   unfolding runOf
   run-formed schedule budget =

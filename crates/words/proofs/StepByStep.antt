@@ -35,6 +35,7 @@ stepwise t (x ∷ xs) budget k s =
     cond (somebody (leadsOf t)) (Ran.Ended endOver k s, t) (cond (eqb k budget) (Ran.Ended endSpent k s, t) later)
 
 module _ (t : List ℕ) (ok : wellFormed t ≡ true) where
+  -- on a well-formed table a step leaves what comes of the choice
   pub step-is : (x : ℕ) (o : Out Proc Msg) → move gateways (countOf t) (capacityOf t) (ringOf t) x ≡ o →
       stepOf t x ≡ stepped t o
   unfolding stepOf

@@ -65,11 +65,11 @@ slotOk len s i =
 abbrev pub slotsOk : ℕ → List ℕ → Bool
 slotsOk c r = allBelow c (slotOk (lengthOf r) (drop recordHead r))
 
--- a record
+-- these four of one record
 abbrev pub recordOk : ℕ → List ℕ → Bool
 recordOk c r = stateOk r && bOk r && lengthOk c r && slotsOk c r
 
--- every record
+-- and of every record
 abbrev pub recordsOk : List ℕ → Bool
 recordsOk t = allBelow (countOf t) (λ j. recordOk (capacityOf t) (recordAt t (capacityOf t) j))
 

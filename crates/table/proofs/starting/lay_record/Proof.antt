@@ -1,4 +1,4 @@
--- `table::starting::lay_record` stores the identity, and as d. Assumes nothing.
+-- `table::starting::lay_record` stores the identity, and the same word as d. Assumes nothing.
 use native.Mathlib.Omega.{arith}
 use borrow.Author.Needs.{needs}
 use lib.ListN.{length-set}
