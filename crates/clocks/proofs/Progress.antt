@@ -1,6 +1,7 @@
 -- A ring that was reached is not stuck before its end: no choice is refused for a wrong kind, and somebody can move.
 -- Assumes nothing.
 use mathlib.Core.Path.{_≡_, ap}
+use mathlib.Core.Bool.{true≢false}
 use mathlib.Core.Logic.{_⊎_, inl, inr, _≢_}
 use Prim.Native.Nat.{ℕ, zero, suc, _+_, _≤_, _<_}
 use native.Mathlib.Decide.{decLt, ℕ-discrete}
@@ -39,15 +40,15 @@ module _ {P M : Type 0} {G : Rules P M} {n : ℕ} {C : Course G n} {R : Ring P M
   never-wrong j i h = go (decLt j n)
     where
       by : j < n → Case G n c R j → ⊥
-      by l (c-made R′ e moved) = let y : _≡_ {A = ℕ} 0 1 = cc in omega arith
-      by l (c-full x p w some e) = let y : _≡_ {A = ℕ} 0 1 = cc in omega arith
-      by l (c-empty f w none e) = let y : _≡_ {A = ℕ} 0 1 = cc in omega arith
+      by l (c-made R′ e moved) = true≢false (cc)
+      by l (c-full x p w some e) = true≢false (cc)
+      by l (c-empty f w none e) = true≢false (cc)
       by l (c-wrong f x q w hq hm e) = fits (C .tells) (r .clocked) j l w hq hm
-      by l (c-over w e) = let y : _≡_ {A = ℕ} 0 1 = cc in omega arith
+      by l (c-over w e) = true≢false (cc)
 
       go : Dec (j < n) → ⊥
       go (yes l) = by l (case-of G n c R j l)
-      go (no l) = let y : _≡_ {A = ℕ} 0 1 = cc (move-out G n c R j (omega arith)) in omega arith
+      go (no l) = true≢false (cc (move-out G n c R j (omega arith)))
 
   abbrev leadIn : ℕ → ℕ
   leadIn j = C .history .lead j (clockIn r j)

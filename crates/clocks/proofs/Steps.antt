@@ -1,6 +1,7 @@
 -- A move of a ring with clocks is one of the history: it puts one clock one on, and no message is of the wrong kind.
 -- Assumes nothing.
 use mathlib.Core.Path.{_≡_, refl, ap, subst, sym, _∙_}
+use mathlib.Core.Bool.{true≢false}
 use mathlib.Core.List.{List, [], _∷_, _++_}
 use mathlib.Core.Logic.{_≢_}
 use Prim.Native.Nat.{ℕ, suc, _<_}
@@ -115,7 +116,7 @@ module _ {P M : Type 0} {G : Rules P M} {n : ℕ} {H : History P M} (tells : Tel
 
     -- so it is not of the wrong kind
     pub fits : f m ≡ wrong → ⊥
-    fits hm = let y : _≡_ {A = ℕ} 0 1 = cc becomes-next in omega arith
+    fits hm = true≢false (cc becomes-next)
 
     module _ {p : P} (hm : f m ≡ right p) where
       is-next : p ≡ H .at j (suc now)

@@ -1,6 +1,7 @@
 -- Demand 3 of a slice whose words are those of a ring that choices reach, by what the entries answer. Assumes nothing.
-use Prim.Native.Nat.{ℕ, _+_, _≤_, _<_}
+use Prim.Native.Nat.{ℕ, _≤_, _<_}
 use mathlib.Core.Path.{_≡_, refl, sym, ap, _∙_}
+use mathlib.Core.Bool.{true≢false}
 use mathlib.Core.List.{List, _++_}
 use mathlib.Core.Logic.{_≢_}
 use native.Mathlib.Omega.{arith}
@@ -60,7 +61,7 @@ module _ (ids : List ℕ) (able : Electable ids) (c : ℕ) (t : List ℕ) (k : �
       go (refused x) m =
           let same : x ≡ WrongKind place = cc (told (refused x) m) in
           Elections.never-nine ids able c (r .choices) j place (sym (here j) ∙ m ∙ ap refused same)
-      go (made R) m = let y : _≡_ {A = ℕ} 0 1 = cc (told (made R) m) in omega arith
+      go (made R) m = true≢false (cc (told (made R) m))
 
   pub one-leads : (i j : ℕ) → i < length ids → j < length ids → procAt (ringOf t) i .state ≡ Leads →
       procAt (ringOf t) j .state ≡ Leads → i ≡ j

@@ -1,6 +1,7 @@
 -- Number and place tell any two answers apart, and only done has number 0. Assumes nothing.
 use Prim.Native.Nat.{ℕ, _≤_}
 use mathlib.Core.Path.{_≡_, refl, sym, ap, _∙_}
+use mathlib.Core.Bool.{true≢false}
 use mathlib.Core.List.{List, [], _∷_, map}
 use native.Mathlib.Omega.{arith}
 use lib.ListN.{getD}
@@ -81,4 +82,4 @@ pub numbered-never-zero : (r : Refusal) → 1 ≤ numbered r .number
 numbered-never-zero r = omega (arith, never)
   where
     never : numbered r .number ≡ 0 → ⊥
-    never z = let y : _≡_ {A = ℕ} 0 1 = cc (zero-done (Refused r) (numbered r) refl z) in omega arith
+    never z = true≢false (cc (zero-done (Refused r) (numbered r) refl z))

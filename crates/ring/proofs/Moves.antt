@@ -1,12 +1,12 @@
 -- What comes of a choice, by cases, over any rows. Assumes nothing.
-use mathlib.Core.Path.{_≡_, refl, ap, sym, _∙_}
+use mathlib.Core.Path.{_≡_, refl, ap, _∙_}
+use mathlib.Core.Bool.{true≢false}
 use mathlib.Core.List.{List, [], _∷_}
 use mathlib.Core.Logic.{if-pos, if-neg}
 use Prim.Native.Nat.{ℕ, _≤_, _<_}
 use native.Mathlib.Decide.{decLt}
 use native.Mathlib.Omega.{arith}
 use lib.ListN.{length}
-use Rattle.refusal.specs.declared.Refusal.{Refusal}
 use Rattle.refusal.specs.declared.Refusal.the-variants.{NoProcess, Empty, Full, WrongKind, Over}
 use Rattle.ring.specs.Ring.{
   Take,
@@ -18,7 +18,6 @@ use Rattle.ring.specs.Ring.{
   announces,
   stays,
   Ring,
-  Out,
   refused,
   made,
   prev,
@@ -92,29 +91,23 @@ module _ {P M : Type 0} (G : Rules P M) (n c : ℕ) where
   move-out R j h =
       if-neg (decLt j n) (λ l. omega arith) (serve c R j (prev n j) (wants G R j)) (refused (NoProcess n))
 
-  made-inj : (A B : Ring P M) → _≡_ {A = Out P M} (made A) (made B) → A ≡ B
-  made-inj A B h = cc
-
-  made-not : (A : Ring P M) (x : Refusal) → _≡_ {A = Out P M} (made A) (refused x) → ⊥
-  made-not A x h = let y : _≡_ {A = ℕ} 0 1 = cc in omega arith
-
   -- who moved is below n, and how it moved
   pub made-is : (R : Ring P M) (j : ℕ) (R′ : Ring P M) → move G n c R j ≡ made R′ → (j < n) × Made R j R′
   made-is R j R′ e = go (decLt j n)
     where
       by : Case R j → Made R j R′
-      by (c-made A z m) = rw (← made-inj A R′ (sym z ∙ e)) m
-      by (c-full m p a b z) = absurd (made-not R′ (Full j) (sym e ∙ z))
-      by (c-empty k a b z) = absurd (made-not R′ (Empty j) (sym e ∙ z))
-      by (c-wrong k m q a b d z) = absurd (made-not R′ (WrongKind j) (sym e ∙ z))
-      by (c-over a z) = absurd (made-not R′ (Over j) (sym e ∙ z))
+      by (c-made A z m) = let same : R′ ≡ A = cc in rw same m
+      by (c-full m p a b z) = absurd (true≢false (cc))
+      by (c-empty k a b z) = absurd (true≢false (cc))
+      by (c-wrong k m q a b d z) = absurd (true≢false (cc))
+      by (c-over a z) = absurd (true≢false (cc))
 
       go : Dec (j < n) → (j < n) × Made R j R′
       go (yes l) = (l, by (case-of R j l))
-      go (no l) = absurd (made-not R′ (NoProcess n) (sym e ∙ move-out R j (omega arith)))
+      go (no l) = absurd (true≢false (cc (move-out R j (omega arith))))
 
   -- who moved wanted something
   pub mover-wants : (R : Ring P M) (j : ℕ) (R′ : Ring P M) → Made R j R′ → wants G R j ≡ stays → ⊥
-  mover-wants R j _ (made-put m p w room) z = let y : _≡_ {A = ℕ} 0 1 = cc in omega arith
-  mover-wants R j _ (made-take k m q p w hq e) z = let y : _≡_ {A = ℕ} 0 1 = cc in omega arith
-  mover-wants R j _ (made-announce p w) z = let y : _≡_ {A = ℕ} 0 1 = cc in omega arith
+  mover-wants R j _ (made-put m p w room) z = true≢false (cc)
+  mover-wants R j _ (made-take k m q p w hq e) z = true≢false (cc)
+  mover-wants R j _ (made-announce p w) z = true≢false (cc)

@@ -1,6 +1,7 @@
 -- Why a choice of a gateway is refused: its want tells its state's number, and the number its want. Assumes nothing.
 use Prim.Native.Nat.{ℕ, _≤_, _<_}
 use mathlib.Core.Path.{_≡_, refl, ap, ap₂, subst, _∙_}
+use mathlib.Core.Bool.{true≢false}
 use mathlib.Core.List.{List, [], _∷_}
 use mathlib.Core.Logic.{_⊎_, inl, inr, ite, if-neg}
 use native.Mathlib.Decide.{decLt, ℕ-discrete}
@@ -20,7 +21,6 @@ use Rattle.gateway.specs.Row.{msg, proc, inState, rowIn, tookIn, row, took}
 use Rattle.gateway.specs.Numbers.{stateNumber}
 use Rattle.gateway.proofs.Numbering.{state-apart}
 use Rattle.ring.specs.Ring.{
-  Take,
   wrong,
   right,
   Want,
@@ -66,22 +66,18 @@ Tells p (takes k) = Taker p × ((m : Msg) → k m ≡ wrong → Mistaken p m)
 Tells p (announces q) = (numberOf p ≡ 2) × (p .d ≡ p .e)
 Tells p stays = numberOf p ≡ 6
 
--- a message that makes a process another is not of the wrong kind
-right-not : (p : Proc) → _≡_ {A = Take Proc} (right p) wrong → ⊥
-right-not p e = let z : _≡_ {A = ℕ} 0 1 = cc in omega arith
-
--- and the one that it makes is the one that the row made
+-- a message that makes a process another makes the one that the row made
 pub right-made : (x : Took) (q : Proc) → taken x ≡ right q → x ≡ Becomes q
 right-made (Becomes p) q e = let z : p ≡ q = cc in ap Becomes z
 right-made Wrong q e = cc
 
 listens-wrong : (p : Proc) (k : Kind) (v : ℕ) → taken (tookIn Listens k p v) ≡ wrong → k ≡ Passive
-listens-wrong p Active v e = absurd (right-not _ e)
+listens-wrong p Active v e = cc
 listens-wrong p Passive v e = refl
 
 decides-wrong : (p : Proc) (k : Kind) (v : ℕ) → taken (tookIn Decides k p v) ≡ wrong → k ≡ Active
 decides-wrong p Active v e = refl
-decides-wrong p Passive v e = absurd (right-not _ e)
+decides-wrong p Passive v e = cc
 
 tells-of : (i : ℕ) (s : State) (d e : ℕ) (b : Kind) →
     Tells (proc i s d e b) (wanted (proc i s d e b) (row (proc i s d e b)))
@@ -97,7 +93,7 @@ tells-of i Compares d e b = go (ℕ-discrete d e)
     go (yes h) = (refl, h)
     go (no h) = inr (inr (refl, h))
 tells-of i Decides d e b = (inr (inl refl), λ m h. inr (refl, decides-wrong _ (m .kind) (m .value) h))
-tells-of i Relays d e b = (inr (inr refl), λ m h. absurd (right-not _ h))
+tells-of i Relays d e b = (inr (inr refl), λ m h. absurd (true≢false (cc)))
 tells-of i Carries d e b = inl refl
 tells-of i Leads d e b = refl
 

@@ -61,7 +61,7 @@ refused-printed s x e = by-asked (askedOf s) e
     by-start : (n : ℕ) (o : Answer × List ℕ) → o .0 ≡ Refused x →
         startText o (scheduleIn n s) (budget n) ≡ refusedLine x
     by-start n (Refused y, t) e = ap refusedLine (let z : y ≡ x = cc in z)
-    by-start n (Done, t) e = let z : _≡_ {A = ℕ} 0 1 = cc in absurd (omega arith)
+    by-start n (Done, t) e = absurd (true≢false (cc))
 
     by-asked : (a : Asked) → answerBy a s ≡ Refused x → askedText a s ≡ refusedLine x
     by-asked (Asked.Refused y) e = ap refusedLine (let z : y ≡ x = cc in z)
@@ -83,7 +83,7 @@ done-printed s e = by-asked (askedOf s) refl e
   where
     by-start : (n c : ℕ) → askedOf s ≡ Asked.Ring n c → (o : Answer × List ℕ) →
         o ≡ startOf blank (identitiesIn n s) c → o .0 ≡ Done → Starting s
-    by-start n c q (Refused y, t) r e = let z : _≡_ {A = ℕ} 0 1 = cc in absurd (omega arith)
+    by-start n c q (Refused y, t) r e = absurd (true≢false (cc))
     by-start n c q (Done, t) r e =
         record {
           count = n;
@@ -95,7 +95,7 @@ done-printed s e = by-asked (askedOf s) refl e
         }
 
     by-asked : (a : Asked) → askedOf s ≡ a → answerBy a s ≡ Done → Starting s
-    by-asked (Asked.Refused y) q e = let z : _≡_ {A = ℕ} 0 1 = cc in absurd (omega arith)
+    by-asked (Asked.Refused y) q e = absurd (true≢false (cc))
     by-asked (Asked.Ring n c) q e = by-start n c q (startOf blank (identitiesIn n s) c) refl e
 
 -- the text tells the answer --

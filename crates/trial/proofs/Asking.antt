@@ -113,9 +113,9 @@ asked-ring s n c e =
     go : (short : Bool) (z : Size) → sizeOf (countIn s) (capacityIn s) ≡ z → (frames : Answer) →
         cond short (Asked.Refused NoByte) (askedBy z frames (countIn s) (capacityIn s)) ≡ Asked.Ring n c →
         Sizes n c × (n ≡ countIn s) × (c ≡ capacityIn s)
-    go true z q frames e = let x : _≡_ {A = ℕ} 0 1 = cc in absurd (omega arith)
-    go false (Size.Refused x) q frames e = let x : _≡_ {A = ℕ} 0 1 = cc in absurd (omega arith)
-    go false (Size.Words w) q (Answer.Refused x) e = let x : _≡_ {A = ℕ} 0 1 = cc in absurd (omega arith)
+    go true z q frames e = absurd (true≢false (cc))
+    go false (Size.Refused x) q frames e = absurd (true≢false (cc))
+    go false (Size.Words w) q (Answer.Refused x) e = absurd (true≢false (cc))
     go false (Size.Words w) q Answer.Done e =
         let m : countIn s ≡ n = cc in
         let d : capacityIn s ≡ c = cc in

@@ -59,6 +59,4 @@ module _ (s : List ℕ) (n c : ℕ) (asked : askedOf s ≡ Asked.Ring n c) where
           x ≡ Repeated (firstRepeat (identitiesIn n s))
       go (yes r) = cc (repeated-four (λ d. omega (arith, r, distinct-unrepeated (identitiesIn n s) d)))
       go (no r) =
-          let done = distinct-done (unrepeated-distinct (identitiesIn n s) (omega (arith, r))) in
-          let z : _≡_ {A = ℕ} 0 1 = cc in
-          absurd (omega arith)
+          cc (distinct-done (unrepeated-distinct (identitiesIn n s) (omega (arith, r))))

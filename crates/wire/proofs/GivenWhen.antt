@@ -1,6 +1,7 @@
 -- Each refusal of reading and writing is given exactly when document 01's table says, in its numbers. Assumes nothing.
 use Prim.Native.Nat.{ℕ, _≤_, _<_}
 use mathlib.Core.Path.{_≡_, refl, sym, ap, subst}
+use mathlib.Core.Bool.{true≢false}
 use mathlib.Core.List.{List}
 use mathlib.Core.Logic.{_⊎_, inl, inr, _↔_}
 use native.Mathlib.Decide.{decLe, decLt}
@@ -130,7 +131,7 @@ module _ (s : List ℕ) where
   by-head : (h : Head) → 1 ≤ length s → headOf (getD s 0 0) ≡ h → Reads s (readTold (readOf s))
   by-head NoHead l q =
       reads-as (read-unknown s (λ e. omega arith) q)
-      (reads-unknown l (λ k. let n = known-named (getD s 0 0) k in let z : _≡_ {A = ℕ} 0 1 = cc in omega arith))
+      (reads-unknown l (λ k. let n = known-named (getD s 0 0) k in true≢false (cc)))
   by-head (Frame o k) l q = by-length (decLt (length s) 5)
     where
       known : Known (getD s 0 0)

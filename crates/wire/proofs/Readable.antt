@@ -1,7 +1,7 @@
 -- Which byte lists read as a message: those that begin with a frame, whatever follows. Assumes nothing.
 use Prim.Native.Nat.{ℕ, _^_, _≤_, _<_}
 use mathlib.Core.Path.{_≡_, refl, subst}
-use mathlib.Core.Bool.{Bool, true, false, cond}
+use mathlib.Core.Bool.{Bool, true, false, true≢false, cond}
 use mathlib.Core.List.{List, [], _∷_}
 use native.Mathlib.Omega.{arith}
 use borrow.Author.Tests.{le-ltb, ltb-false}
@@ -36,19 +36,19 @@ begins-read (b ∷ l) m f =
 
 -- and nothing else does
 pub read-begins : (s : List ℕ) (m : Msg) → readOf s ≡ Message m → Begins s m
-read-begins [] m e = let z : _≡_ {A = ℕ} 0 1 = cc in absurd (omega arith)
+read-begins [] m e = absurd (true≢false (cc))
 read-begins (b ∷ l) m e = byHead (headOf b) refl e
   where
     byLength : (o : Order) (k : Kind) (r : Refusal) (t : Bool) →
         headOf b ≡ Frame o k → ltb (length (b ∷ l)) (frameLength k) ≡ t →
         cond t (Refused r) (Message (msg (valueOf o (bodyOf k (b ∷ l))) k)) ≡ Message m → Begins (b ∷ l) m
-    byLength o k r true q t f = let z : _≡_ {A = ℕ} 0 1 = cc in absurd (omega arith)
+    byLength o k r true q t f = absurd (true≢false (cc))
     byLength o k r false q t f =
         let z : msg (valueOf o (bodyOf k (b ∷ l))) k ≡ m = cc in
         subst (Begins (b ∷ l)) z (record { order = o; named = q; whole = ltb-false _ _ t; body = refl })
 
     byHead : (h : Head) → headOf b ≡ h → readAs h (b ∷ l) ≡ Message m → Begins (b ∷ l) m
-    byHead NoHead q f = let z : _≡_ {A = ℕ} 0 1 = cc in absurd (omega arith)
+    byHead NoHead q f = absurd (true≢false (cc))
     byHead (Frame o k) q f = byLength o k _ (ltb (length (b ∷ l)) (frameLength k)) q refl f
 
 -- where s is of bytes, so is the body, and it has the length that the kind fixes

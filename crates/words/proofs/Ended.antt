@@ -1,7 +1,7 @@
 -- What a step that is done, and a run that ended, tell. Assumes nothing.
 use Prim.Native.Nat.{ℕ, _+_, _≤_}
-use mathlib.Core.Path.{_≡_, refl, sym, ap, _∙_}
-use mathlib.Core.Bool.{Bool, true, false, cond}
+use mathlib.Core.Path.{_≡_, refl, ap, _∙_}
+use mathlib.Core.Bool.{Bool, true, false, true≢false, cond}
 use mathlib.Core.List.{List}
 use native.Mathlib.Omega.{arith}
 use lib.ListN.{length}
@@ -34,16 +34,11 @@ pub step-done : (t : List ℕ) (j : ℕ) (t′ : List ℕ) → (Done, t′) ≡ 
 unfolding stepOf
 step-done t j t′ h = go (wellFormed t) refl (move gateways (countOf t) (capacityOf t) (ringOf t) j) refl h
   where
-    never : (x : Answer) (u : List ℕ) → _≡_ {A = Answer × List ℕ} (Done, t′) (x, u) → x ≡ Done
-    never x u e = sym (ap (λ (p : Answer × List ℕ). p .0) e)
-
     go : (b : Bool) → wellFormed t ≡ b → (o : Out Proc Msg) →
         move gateways (countOf t) (capacityOf t) (ringOf t) j ≡ o →
         (Done, t′) ≡ cond b (stepped t o) (Refused Malformed, t) → Stepped t j t′
-    go false f o m e =
-        let z = never (Refused Malformed) t e in let n : _≡_ {A = ℕ} 0 1 = cc in absurd (omega arith)
-    go true f (refused x) m e =
-        let z = never (Refused x) t e in let n : _≡_ {A = ℕ} 0 1 = cc in absurd (omega arith)
+    go false f o m e = absurd (true≢false (cc (ap (λ (p : Answer × List ℕ). p .0) e)))
+    go true f (refused x) m e = absurd (true≢false (cc (ap (λ (p : Answer × List ℕ). p .0) e)))
     go true f (made R) m e = record {
       formed = f;
       ring = R;
@@ -62,10 +57,7 @@ ended-formed t schedule budget e k s t′ h =
   where
     go : (b : Bool) (r : Run Proc Msg) → (Ran.Ended e k s, t′) ≡ cond b (ran t r) (Ran.Refused Malformed, t) → b ≡ true
     go true r h = refl
-    go false r h =
-        let z : Ran.Ended e k s ≡ Ran.Refused Malformed = ap (λ (p : Ran × List ℕ). p .0) h in
-        let n : _≡_ {A = ℕ} 0 1 = cc in
-        absurd (omega arith)
+    go false r h = cc (ap (λ (p : Ran × List ℕ). p .0) h)
 
 -- on a well-formed table a run ends where its ring's run does
 pub run-is : (t schedule : List ℕ) (budget : ℕ) → wellFormed t ≡ true →

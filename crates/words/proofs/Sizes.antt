@@ -2,7 +2,6 @@
 use Prim.Native.Nat.{ℕ}
 use mathlib.Core.Path.{_≡_, refl}
 use mathlib.Core.Bool.{Bool, true, false, _&&_, not, cond}
-use native.Mathlib.Omega.{arith}
 use Rattle.refusal.specs.declared.Refusal.{Refusal}
 use Rattle.refusal.specs.declared.Refusal.the-variants.{Count, Capacity}
 use Rattle.words.specs.declared.Size.{Size}
@@ -24,7 +23,7 @@ module _ (n c : ℕ) where
   refused-out x e = go (inRange mostProcesses n) (inRange mostCapacity c) e
     where
       go : (a b : Bool) → Refused x ≡ sizeBy (tableLength n c) a b → (a && b) ≡ false
-      go true true e = let z : _≡_ {A = ℕ} 0 1 = cc in absurd (omega arith)
+      go true true e = cc
       go true false e = refl
       go false b e = refl
 
@@ -34,5 +33,5 @@ module _ (n c : ℕ) where
     where
       go : (a b : Bool) → Words taken ≡ sizeBy (tableLength n c) a b → (taken ≡ tableLength n c) × ((a && b) ≡ true)
       go true true e = (cc, refl)
-      go true false e = let z : _≡_ {A = ℕ} 0 1 = cc in absurd (omega arith)
-      go false b e = let z : _≡_ {A = ℕ} 0 1 = cc in absurd (omega arith)
+      go true false e = (cc, cc)
+      go false b e = (cc, cc)

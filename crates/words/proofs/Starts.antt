@@ -3,7 +3,6 @@ use Prim.Native.Nat.{ℕ}
 use mathlib.Core.Path.{_≡_, refl, sym}
 use mathlib.Core.Bool.{Bool, true, false, cond, not}
 use mathlib.Core.List.{List, _++_}
-use native.Mathlib.Omega.{arith}
 use borrow.Author.Tests.{ltb-false, not-false}
 use lib.ListN.{length, drop}
 use lib.Dec.{ltb}
@@ -33,7 +32,7 @@ pub record Ready (t ids : List ℕ) (c : ℕ) : Type 0 where
 -- a test that would have refused did not
 passed : (b : Bool) (x : Refusal) (t : List ℕ) (o : Answer × List ℕ) → cond b (Refused x, t) o .0 ≡ Done →
     (b ≡ false) × (o .0 ≡ Done)
-passed true x t o e = let z : _≡_ {A = ℕ} 0 1 = cc in absurd (omega arith)
+passed true x t o e = (cc, cc)
 passed false x t o e = (refl, e)
 
 pub start-ready : (t ids : List ℕ) (c : ℕ) → startOf t ids c .0 ≡ Done → Ready t ids c

@@ -1,7 +1,5 @@
 -- `frame::kinds::known` tells the bytes that begin a frame. Assumes nothing.
-use Prim.Native.Nat.{ℕ}
-use mathlib.Core.Path.{_≡_}
-use native.Mathlib.Omega.{arith}
+use mathlib.Core.Bool.{false≢true}
 use borrow.Author.Needs.{needs}
 use borrow.Author.Tests.{leb-true, leb-false}
 use Rattle.frame.proofs.KindBytes.{neighbour-known, below-unknown, above-unknown}
@@ -11,7 +9,7 @@ use Rattle.frame.proofs.kinds.known.Tie as tie
 returns : tie.Need-returns
 returns c =
     let r = c .before .without-order in (
-      λ e. absurd (let y : _≡_ {A = ℕ} 0 1 = cc in omega arith),
+      λ e. absurd (false≢true e),
       λ e. below-unknown (c .before .before .args .byte) (rw (← r .ensures) (c .if1 .taken)),
     )
 
