@@ -1,8 +1,9 @@
 -- Any two outcomes that a public function's contract allows are equal. Assumes nothing.
 use Prim.Native.Nat.{ℕ}
-use mathlib.Core.Path.{_≡_, sym, ap, _∙_}
+use mathlib.Core.Path.{_≡_}
 use mathlib.Core.List.{List}
 use Rattle.refusal.specs.declared.Answer.{Answer}
+use Rattle.refusal.proofs.Outcomes.{outcome-settled}
 use Rattle.wire.specs.declared.Head.{Head}
 use Rattle.wire.specs.declared.Reading.{Reading}
 use Rattle.wire.specs.declared.ReadTold.{ReadTold}
@@ -22,4 +23,4 @@ told-settled r x y a b = cc
 -- the answer of `frame::write`, and every byte lent to it
 pub write-settled : (out : List ℕ) (g n v : ℕ) (x y : Answer) (s t : List ℕ) →
     (x, s) ≡ writeOf out g n v → (y, t) ≡ writeOf out g n v → (x ≡ y) × (s ≡ t)
-write-settled out g n v x y s t a b = let e = a ∙ sym b in (ap (λ p. p .0) e, ap (λ p. p .1) e)
+write-settled out g n v x y s t a b = outcome-settled a b
