@@ -2,34 +2,20 @@
 -- Assumes nothing.
 use mathlib.Core.Path.{_≡_, ap}
 use mathlib.Core.Bool.{true≢false}
-use mathlib.Core.Logic.{_⊎_, inl, inr, _≢_}
-use Prim.Native.Nat.{ℕ, zero, suc, _+_, _≤_, _<_}
-use native.Mathlib.Decide.{decLt, ℕ-discrete}
+use mathlib.Core.Logic.{_⊎_, inl, inr, ⊎-elim, _≢_}
+use Prim.Native.Nat.{ℕ, suc, _+_, _≤_, _<_}
+use native.Mathlib.Decide.{decLt}
 use native.Mathlib.Omega.{arith}
 use lib.ListN.{length}
 use Rattle.refusal.specs.declared.Refusal.the-variants.{WrongKind}
 use Rattle.ring.specs.Ring.{puts, takes, stays, Ring, refused, prev, queueOf, Rules, wants, move, CanMove}
+use Rattle.ring.proofs.Counting.{first-of}
 use Rattle.ring.proofs.Around.{prev-below, onward}
 use Rattle.ring.proofs.Moves.{Case, c-made, c-full, c-empty, c-wrong, c-over, case-of, move-out}
 use Rattle.clocks.proofs.Courses.{Finish, Course}
 use Rattle.clocks.proofs.Steps.{does, fits}
 use Rattle.clocks.proofs.Reached.{Reached, clockIn, sentIn, gotIn, last-stays}
 use Rattle.clocks.proofs.Flows.{flow}
-
--- A holds somewhere, or B of each number below n
-some-or-all : (n : ℕ) (A B : ℕ → Type 0) → ((j : ℕ) → j < n → A j ⊎ B j) →
-    ((j : ℕ) × A j) ⊎ ((j : ℕ) → j < n → B j)
-some-or-all zero A B each = inr (λ j l. absurd (omega arith))
-some-or-all (suc n) A B each = go (each n (omega arith)) (some-or-all n A B (λ j l. each j (omega arith)))
-  where
-    at : (j : ℕ) → j < suc n → B n → ((j : ℕ) → j < n → B j) → Dec (j ≡ n) → B j
-    at j l b below (yes q) = rw q b
-    at j l b below (no q) = below j (omega arith)
-
-    go : A n ⊎ B n → ((j : ℕ) × A j) ⊎ ((j : ℕ) → j < n → B j) → ((j : ℕ) × A j) ⊎ ((j : ℕ) → j < suc n → B j)
-    go (inl a) rest = inl (n, a)
-    go (inr b) (inl some) = inl some
-    go (inr b) (inr below) = inr (λ j l. at j l b below (ℕ-discrete j n))
 
 module _ {P M : Type 0} {G : Rules P M} {n : ℕ} {C : Course G n} {R : Ring P M} {m : ℕ} (r : Reached C R m)
     (c : ℕ) where
@@ -110,19 +96,17 @@ module _ {P M : Type 0} {G : Rules P M} {n : ℕ} {C : Course G n} {R : Ring P M
         go (yes z) = omega arith
         go (no z) = absurd (on (F .last) (F .below) (last-stays r (omega arith)))
 
-    moves-or-stuck : (j : ℕ) → j < n → CanMove G n c R j ⊎ Stuck j
-    moves-or-stuck j l = go (case-of G n c R j l)
+    stuck-or-moves : (j : ℕ) → j < n → Stuck j ⊎ CanMove G n c R j
+    stuck-or-moves j l = go (case-of G n c R j l)
       where
-        go : Case G n c R j → CanMove G n c R j ⊎ Stuck j
-        go (c-made R′ e moved) = inl (R′, e)
-        go (c-full x p w some e) = inr (full (does (C .tells) (r .clocked) j l (puts x p) w .late) (omega arith))
-        go (c-empty f w none e) = inr (starved (does (C .tells) (r .clocked) j l (takes f) w .ahead) (ap length none))
+        go : Case G n c R j → Stuck j ⊎ CanMove G n c R j
+        go (c-made R′ e moved) = inr (R′, e)
+        go (c-full x p w some e) = inl (full (does (C .tells) (r .clocked) j l (puts x p) w .late) (omega arith))
+        go (c-empty f w none e) = inl (starved (does (C .tells) (r .clocked) j l (takes f) w .ahead) (ap length none))
         go (c-wrong f x q w hq hm e) = absurd (fits (C .tells) (r .clocked) j l w hq hm)
         go (c-over w e) = absurd (on j l w)
 
     pub somebody-moves : (j : ℕ) × CanMove G n c R j
-    somebody-moves = go (some-or-all n (CanMove G n c R) Stuck moves-or-stuck)
-      where
-        go : ((j : ℕ) × CanMove G n c R j) ⊎ ((j : ℕ) → j < n → Stuck j) → (j : ℕ) × CanMove G n c R j
-        go (inl some) = some
-        go (inr all) = absurd (none-stuck all not-over)
+    somebody-moves =
+        ⊎-elim (λ all. absurd (none-stuck all not-over)) (λ (j, l, before, moves). (j, moves))
+        (first-of Stuck (CanMove G n c R) n stuck-or-moves)

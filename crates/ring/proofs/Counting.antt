@@ -1,15 +1,21 @@
--- Counting: what each number hands on to the next, and what comes to an end since it cannot count past a limit.
+-- Counting: the first number that is not so, and what comes to an end since it cannot count past a limit.
 -- Assumes nothing.
-use Prim.Native.Nat.{ℕ, zero, suc, _+_, _≤_}
+use Prim.Native.Nat.{ℕ, zero, suc, _+_, _≤_, _<_}
 use mathlib.Core.Logic.{_⊎_, inl, inr}
 use native.Mathlib.Omega.{arith}
+use borrow.Author.Count.{below-more}
 
--- it holds from one number on
-pub upward : (A : ℕ → Type 0) → ((n : ℕ) → A n → A (suc n)) → (m n : ℕ) → m ≤ n → A m → A n
-upward A on zero zero h a = a
-upward A on zero (suc n) h a = on n (upward A on zero n (omega arith) a)
-upward A on (suc m) zero h a = absurd (omega arith)
-upward A on (suc m) (suc n) h a = upward (λ k. A (suc k)) (λ k. on (suc k)) m n (omega arith) a
+-- where each number below n is P or Q, all are P, or there is a first that is Q
+pub first-of : (P Q : ℕ → Type 0) (n : ℕ) → ((i : ℕ) → i < n → P i ⊎ Q i) →
+    ((i : ℕ) → i < n → P i) ⊎ ((i : ℕ) × (i < n) × ((k : ℕ) → k < i → P k) × Q i)
+first-of P Q zero each = inl (λ i l. absurd (omega arith))
+first-of P Q (suc n) each = go (first-of P Q n (λ i l. each i (omega arith))) (each n (omega arith))
+  where
+    go : ((i : ℕ) → i < n → P i) ⊎ ((i : ℕ) × (i < n) × ((k : ℕ) → k < i → P k) × Q i) → P n ⊎ Q n →
+        ((i : ℕ) → i < suc n → P i) ⊎ ((i : ℕ) × (i < suc n) × ((k : ℕ) → k < i → P k) × Q i)
+    go (inr (i, l, before, q)) here = inr (i, omega arith, before, q)
+    go (inl all) (inl p) = inl (λ i l. below-more P n all p i (omega arith))
+    go (inl all) (inr q) = inr (n, omega arith, all, q)
 
 -- what ends or counts one more, and never counts more than the limit
 module _ (A : ℕ → Type 0) (B : Type 0) (limit : ℕ) (within : (k : ℕ) → A k → k ≤ limit)

@@ -1,6 +1,6 @@
 -- Whether a value is the one asked for, as 1 or 0. Assumes nothing.
-use mathlib.Core.Path.{_≡_, refl}
-use mathlib.Core.Logic.{ite, _≢_}
+use mathlib.Core.Path.{_≡_}
+use mathlib.Core.Logic.{ite, if-pos, if-neg, _≢_}
 use Prim.Native.Nat.{ℕ, _≤_}
 use native.Mathlib.Decide.{ℕ-discrete}
 use native.Mathlib.Omega.{arith}
@@ -8,18 +8,10 @@ use Rattle.ring.specs.Active.{flag}
 
 module _ (v x : ℕ) where
   pub flag-one : v ≡ x → flag v x ≡ 1
-  flag-one e = go (ℕ-discrete v x)
-    where
-      go : (t : Dec (v ≡ x)) → _≡_ {A = ℕ} (ite t 1 0) 1
-      go (yes q) = refl
-      go (no q) = absurd (q e)
+  flag-one e = if-pos (ℕ-discrete v x) e 1 0
 
   pub flag-zero : v ≢ x → flag v x ≡ 0
-  flag-zero ne = go (ℕ-discrete v x)
-    where
-      go : (t : Dec (v ≡ x)) → _≡_ {A = ℕ} (ite t 1 0) 0
-      go (yes q) = absurd (ne q)
-      go (no q) = refl
+  flag-zero ne = if-neg (ℕ-discrete v x) ne 1 0
 
   pub flag-is : 1 ≤ flag v x → v ≡ x
   flag-is h = go (ℕ-discrete v x) h

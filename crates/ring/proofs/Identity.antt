@@ -22,12 +22,10 @@ module _ (ident : ℕ → ℕ) where
       eqb-false (ident i) (ident j) (not-true _ (all-at (λ k. not (eqb (ident k) (ident j))) j i l e))
 
   pub fresh-distinct : (n : ℕ) → ((i : ℕ) → i < n → isFresh ident i ≡ true) → DistinctBelow n ident
-  fresh-distinct n fresh i j hi hj e = go (decLt i j) (decLt j i)
-    where
-      go : Dec (i < j) → Dec (j < i) → i ≡ j
-      go (yes a) b = absurd (fresh-differs i j a (fresh j hj) e)
-      go (no a) (yes b) = absurd (fresh-differs j i b (fresh i hi) (sym e))
-      go (no a) (no b) = omega arith
+  fresh-distinct n fresh i j hi hj e =
+      let below : i < j → ⊥ = λ l. fresh-differs i j l (fresh j hj) e in
+      let above : j < i → ⊥ = λ l. fresh-differs j i l (fresh i hi) (sym e) in
+      omega arith
 
   pub distinct-fresh : (n : ℕ) → DistinctBelow n ident → (i : ℕ) → i < n → isFresh ident i ≡ true
   distinct-fresh n d i h =

@@ -2,7 +2,7 @@
 use mathlib.Core.Path.{_≡_, refl, ap, sym, _∙_}
 use mathlib.Core.Logic.{_≢_}
 use Prim.Native.Nat.{ℕ, zero, suc, _+_, _*_, _≤_, _<_}
-use native.Mathlib.Decide.{decLt, ℕ-discrete}
+use native.Mathlib.Decide.{ℕ-discrete}
 use native.Mathlib.Omega.{arith}
 use Rattle.ring.specs.Active.{sum, flag}
 use Rattle.ring.proofs.Flags.{flag-one, flag-zero}
@@ -58,12 +58,10 @@ two-within f (suc n) i j l h = go (ℕ-discrete j n) (two-within f n i j l)
 
 -- a sum of at most 1 has at most one term that counts
 pub one-term : (f : ℕ → ℕ) (n i j : ℕ) → sum f n ≤ 1 → i < n → j < n → 1 ≤ f i → 1 ≤ f j → i ≡ j
-one-term f n i j s hi hj fi fj = go (decLt i j) (decLt j i)
-  where
-    go : Dec (i < j) → Dec (j < i) → i ≡ j
-    go (yes a) b = absurd (omega (arith, two-within f n i j a hj))
-    go (no a) (yes b) = absurd (omega (arith, two-within f n j i b hi))
-    go (no a) (no b) = omega arith
+one-term f n i j s hi hj fi fj =
+    let below : i < j → ⊥ = λ l. omega (arith, two-within f n i j l hj) in
+    let above : j < i → ⊥ = λ l. omega (arith, two-within f n j i l hi) in
+    omega arith
 
 -- and the other way round
 pub sum-of-one : (f : ℕ → ℕ) (n j : ℕ) → ((k : ℕ) → k < n → k ≢ j → f k ≡ 0) → f j ≤ 1 → sum f n ≤ 1

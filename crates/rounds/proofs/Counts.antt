@@ -1,9 +1,8 @@
 -- From round to round: no seat comes to hold a value again, and no value to be held twice. Assumes nothing.
 use mathlib.Core.Path.{_≡_, ap}
 use Prim.Native.Nat.{ℕ, zero, suc, _≤_, _<_}
-use native.Mathlib.Decide.{ℕ-discrete}
+use native.Mathlib.Decide.{ℕ-discrete, le-ind}
 use native.Mathlib.Omega.{arith}
-use Rattle.ring.proofs.Counting.{upward}
 use Rattle.ring.proofs.Sums.{sum-most, sum-ones, sum-of-one}
 use Rattle.rounds.specs.Seats.{Seat, holds, Values, isHolding}
 use Rattle.rounds.specs.Contests.{Contest, seatIn, heardIn, holdingIn}
@@ -31,8 +30,8 @@ times-within K x r =
 module _ (K : Contest) (U : Rule (K .rule)) where
   -- a seat that passes on passes on in all later rounds
   pub passes-on : (r s j : ℕ) → r ≤ s → isHolding (seatIn K r j) ≡ 0 → isHolding (seatIn K s j) ≡ 0
-  passes-on r s j l =
-      upward (λ r. isHolding (seatIn K r j) ≡ 0) (λ r. U .passing (seatIn K r j) (heardIn K r j)) r s l
+  passes-on r s j l none =
+      le-ind (λ r. isHolding (seatIn K r j) ≡ 0) none (λ r _. U .passing (seatIn K r j) (heardIn K r j)) s l
 
   no-more-hold : (r : ℕ) → holdingIn K (suc r) ≤ holdingIn K r
   no-more-hold r =
@@ -45,7 +44,7 @@ module _ (K : Contest) (U : Rule (K .rule)) where
 
   -- where none holds a value, none does later
   pub none-later : (r s : ℕ) → r ≤ s → holdingIn K r ≡ 0 → holdingIn K s ≡ 0
-  none-later r s l = upward (λ r. holdingIn K r ≡ 0) (λ r none. omega (arith, no-more-hold r)) r s l
+  none-later r s l none = le-ind (λ r. holdingIn K r ≡ 0) none (λ r _ none. omega (arith, no-more-hold r)) s l
 
   -- where no identity occurs twice
   module _ (distinct : (x : ℕ) → timesIn K x 0 ≤ 1) where

@@ -1,11 +1,10 @@
 -- What goes round a ring of seats no longer changes after two laps. Assumes nothing.
 use mathlib.Core.Path.{_≡_, refl, ap, subst}
 use Prim.Native.Nat.{ℕ, zero, suc, _-_, _≤_, _<_}
-use native.Mathlib.Decide.{ℕ-discrete}
+use native.Mathlib.Decide.{ℕ-discrete, le-ind}
 use native.Mathlib.Omega.{arith}
 use Rattle.ring.specs.Ring.{prev}
 use Rattle.ring.specs.Active.{sum}
-use Rattle.ring.proofs.Counting.{upward}
 use Rattle.ring.proofs.Sums.{some-term}
 use Rattle.rounds.specs.Seats.{Seat, holds, passes, Values, values, sends, along, settled, hears, isHolding}
 
@@ -35,7 +34,7 @@ module _ (f : ℕ → Seat) where
     module _ (n i : ℕ) (below : i < n) (held : 1 ≤ isHolding (f i)) where
       -- the first value that came to seat 0 is forgotten
       first-forgotten : along f h n .first ≡ along f k n .first
-      first-forgotten = upward SameFirst first-on (suc i) n below (go (f i) refl)
+      first-forgotten = le-ind SameFirst (go (f i) refl) (λ j _. first-on j) n below
         where
           go : (s : Seat) → f i ≡ s → sends s (along f h i) .first ≡ sends s (along f k i) .first
           go (holds d e) is = refl
@@ -44,10 +43,10 @@ module _ (f : ℕ → Seat) where
       -- and so is the second, where h and k agree in the first
       both-forgotten : h .first ≡ k .first → along f h n ≡ along f k n
       both-forgotten same =
-          upward (λ j. along f h j ≡ along f k j) (λ j. ap (sends (f j))) (suc i) n below (go (f i) refl)
+          le-ind (λ j. along f h j ≡ along f k j) (go (f i) refl) (λ j _. ap (sends (f j))) n below
         where
           go : (s : Seat) → f i ≡ s → sends s (along f h i) ≡ sends s (along f k i)
-          go (holds d e) is = ap (values d) (upward SameFirst first-on 0 i (omega arith) same)
+          go (holds d e) is = ap (values d) (le-ind {n = 0} SameFirst same (λ j _. first-on j) i (omega arith))
           go (passes d e) is = absurd (omega (arith, ap isHolding is))
 
 -- what comes to seat 0 comes to it again after a lap

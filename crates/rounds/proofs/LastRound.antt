@@ -4,6 +4,7 @@ use mathlib.Core.Logic.{_⊎_, inl, inr, _≢_}
 use Prim.Native.Nat.{ℕ, suc, _+_, _≤_, _<_}
 use native.Mathlib.Decide.{ℕ-discrete}
 use native.Mathlib.Omega.{arith}
+use borrow.Author.Count.{below-more}
 use borrow.Author.Tests.{eq-eqb, ne-eqb}
 use lib.Dec.{eqb}
 use Rattle.ring.proofs.Counting.{must-end}
@@ -25,16 +26,11 @@ module _ (K : Contest) (top : ℕ) (F : Fair K top) where
     room : holdingIn K r + r ≤ K .size
 
   next-undecided : (r : ℕ) → Undecided r → holdingIn K r ≢ 1 → Undecided (suc r)
-  next-undecided r at more =
-      record {
-        some = top-next K top F r (at .some) (omega (arith, times-within K top r));
-        earlier = λ s l. go s l (ℕ-discrete s r);
-        room = omega (arith, fewer-next K top F r (at .some));
-      }
-    where
-      go : (s : ℕ) → s < suc r → Dec (s ≡ r) → holdingIn K s ≢ 1
-      go s l (yes q) = rw q more
-      go s l (no q) = at .earlier s (omega arith)
+  next-undecided r at more = record {
+    some = top-next K top F r (at .some) (omega (arith, times-within K top r));
+    earlier = λ s l. below-more (λ s. holdingIn K s ≢ 1) r (at .earlier) more s (omega arith);
+    room = omega (arith, fewer-next K top F r (at .some));
+  }
 
   -- the first round in which one seat is left
   record Found : Type 0 where

@@ -1,10 +1,10 @@
 -- The bench program gives each refusal exactly when document 01 says, in its numbers. Assumes nothing.
-use Prim.Native.Nat.{ℕ, zero, suc, _≤_, _<_}
+use Prim.Native.Nat.{ℕ, _≤_, _<_}
 use mathlib.Core.Path.{_≡_, refl, sym, ap, subst, _∙_}
 use mathlib.Core.Bool.{true}
 use mathlib.Core.List.{List, [], _∷_}
 use mathlib.Core.Logic.{_⊎_, inl, inr, _↔_}
-use native.Mathlib.Decide.{decLt, ℕ-discrete}
+use native.Mathlib.Decide.{decLt}
 use native.Mathlib.Omega.{arith}
 use lib.ListN.{length, getD}
 use Rattle.refusal.specs.declared.Refusal.{Refusal}
@@ -13,6 +13,7 @@ use Rattle.refusal.specs.declared.Answer.{Answer}
 use Rattle.refusal.specs.declared.Answer.the-variants as Answer
 use Rattle.refusal.specs.Numbered.{told}
 use Rattle.ring.specs.Identities.{Distinct, firstRepeat}
+use Rattle.ring.proofs.Counting.{first-of}
 use Rattle.ring.proofs.Identity.{unrepeated-distinct, distinct-unrepeated}
 use Rattle.wire.specs.declared.Reading.the-variants.{Refused}
 use Rattle.words.specs.declared.Size.the-variants as Size
@@ -85,22 +86,6 @@ pub record Asks (s : List ℕ) (number : ℕ) : Type 0 where
   pub four : (number ≡ 4) ↔ (Sized s × AllWhole s × (Distinct (identities s) → ⊥))
   pub done : (number ≡ 0) ↔ (Sized s × AllWhole s × Distinct (identities s))
   pub only : Answered number
-
--- where each is P or Q, all below n are P, or there is a first that is Q
-first-of : (P Q : ℕ → Type 0) → ((i : ℕ) → P i ⊎ Q i) → (n : ℕ) →
-    ((i : ℕ) → i < n → P i) ⊎ ((i : ℕ) × (i < n) × ((k : ℕ) → k < i → P k) × Q i)
-first-of P Q each zero = inl (λ i b. absurd (omega arith))
-first-of P Q each (suc n) = go (first-of P Q each n) (each n)
-  where
-    last : ((i : ℕ) → i < n → P i) → P n → (i : ℕ) → i < suc n → Dec (i ≡ n) → P i
-    last all p i b (yes e) = subst P (sym e) p
-    last all p i b (no u) = all i (omega arith)
-
-    go : ((i : ℕ) → i < n → P i) ⊎ ((i : ℕ) × (i < n) × ((k : ℕ) → k < i → P k) × Q i) → P n ⊎ Q n →
-        ((i : ℕ) → i < suc n → P i) ⊎ ((i : ℕ) × (i < suc n) × ((k : ℕ) → k < i → P k) × Q i)
-    go (inr (i, b, before, q)) here = inr (i, omega arith, before, q)
-    go (inl all) (inl p) = inl (λ i b. last all p i b (ℕ-discrete i n))
-    go (inl all) (inr q) = inr (n, omega arith, all, q)
 
 module _ (s : List ℕ) where
   abbrev number : ℕ
@@ -216,7 +201,7 @@ module _ (s : List ℕ) where
       by-size h (yes x) (no u) = since 2 is-two (h, x, u) (inr (inr (inl refl)))
       by-size h (yes x) (yes y) =
           by-frames (h, x, y)
-          (first-of (λ i. Whole (framesFrom s i)) (λ i. Faulty (framesFrom s i)) (λ i. sorted (framesFrom s i)) n)
+          (first-of (λ i. Whole (framesFrom s i)) (λ i. Faulty (framesFrom s i)) n (λ i b. sorted (framesFrom s i)))
 
       by-length : Dec (length s < 2) → AskGiven number
       by-length (yes short) = since 11 is-eleven (inl short) (inr (inr (inr (inr (inl refl)))))
