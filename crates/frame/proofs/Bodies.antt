@@ -3,7 +3,7 @@ use Prim.Native.Nat.{ℕ, _+_, _-_, _≤_, _<_}
 use mathlib.Core.Path.{_≡_, refl, ap, _∙_}
 use mathlib.Core.List.{List, [], _∷_, _++_, append-nil}
 use native.Mathlib.Omega.{arith}
-use lib.ListN.{length, getD, take, drop, set, length-drop, drop-of-length-le}
+use lib.ListN.{length, getD, take, drop, set, drop-of-length-le}
 use lib.Seq.{take-all}
 use borrow.Rule.Slice.PartMut.{midOf, putMid}
 use Rattle.wire.specs.declared.Order.{Order}
@@ -45,10 +45,6 @@ word-stored s o v t a b c d h q e = by-four P stored s h
 
     stored : (a b c d : ℕ) (r : List ℕ) → P (a ∷ b ∷ c ∷ d ∷ r)
     stored w x y z r = ap (λ l. l ++ r) (e ∙ ap (digits wordBytes) q ∙ digits-turned o wordBytes v)
-
--- what is lent of a list from a place on
-pub lent-rest : (at : ℕ) (s : List ℕ) → take (length s - at) (drop at s) ≡ drop at s
-lent-rest at s = take-all (length s - at) (drop at s) (omega (arith, length-drop at s))
 
 -- the first byte stored, and a field put into what is lent of the rest
 pub rest-put : (s q : List ℕ) (h : ℕ) (o : Order) (v : ℕ) → 1 ≤ length s →

@@ -5,7 +5,7 @@ use mathlib.Core.List.{List, [], _∷_, _++_, append-nil}
 use native.Mathlib.Nat.{add-comm}
 use native.Mathlib.Numerals.{add-one}
 use native.Mathlib.Omega.{arith}
-use borrow.Rule.Slice.PartMut.{midOf, putMid}
+use borrow.Rule.Slice.PartMut.{putMid}
 use lib.ListN.{length, getD, take, drop, set, length-append, length-drop, drop-of-length-le}
 use lib.Seq.{
   length-take-le,
@@ -67,10 +67,7 @@ module _ (q : List ℕ) (i : ℕ) where
         append-snoc (drop 2 q) 0 (0 ∷ []),
       )
 
--- a part that runs to the end: what is lent, and the whole when it is back
-pub tail-mid : (a : ℕ) (xs : List ℕ) → midOf a (length xs - a) xs ≡ drop a xs
-tail-mid a xs = take-all (length xs - a) (drop a xs) (simp length-drop (omega arith))
-
+-- the whole when a part that runs to its end is back
 pub tail-put : (a : ℕ) (xs ys : List ℕ) → putMid a (length xs - a) xs ys ≡ take a xs ++ ys
 tail-put a xs ys =
     rw (drop-of-length-le (drop a xs) {i = length xs - a} (simp length-drop (omega arith)), append-nil)

@@ -2,9 +2,9 @@
 use mathlib.Core.Path.{sym, ap, _∙_}
 use native.Mathlib.Omega.{arith}
 use borrow.Author.Needs.{needs}
+use borrow.Rule.Slice.PartAt.{part-to-end}
 use lib.ListN.{take}
 use Rattle.wire.specs.Bytes.{wordBytes, valueOf}
-use Rattle.frame.proofs.Bodies.{lent-rest}
 use Rattle.wire.proofs.Outcomes.{read-unknown, read-whole}
 use Rattle.frame.proofs.read.Statement.{statement}
 use Rattle.frame.proofs.read.Tie as tie
@@ -16,7 +16,7 @@ returns-2 c =
     read-whole (named .0 .0) (named .0 .1 .0) s _
     (sym (c .before .before .before .before .before .head-of .ensures) ∙ named .1)
     (c .before .before .before .before .before .before .before .if1 .left)
-    (c .word .ensures ∙ ap (λ l. valueOf (named .0 .0) (take wordBytes l)) (lent-rest 1 s))
+    (c .word .ensures ∙ ap (λ l. valueOf (named .0 .0) (take wordBytes l)) (part-to-end s 1))
 
 returns-3 : tie.Need-returns-3
 returns-3 c =

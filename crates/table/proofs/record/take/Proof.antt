@@ -2,12 +2,13 @@
 use Prim.Native.Nat.{_-_}
 use mathlib.Core.Path.{_∙_}
 use native.Mathlib.Omega.{arith}
+use borrow.Rule.Slice.PartAt.{part-to-end}
 use borrow.Rule.Slice.PartMut.{same-len-mid}
 use lib.ListN.{length, set, length-set, length-drop}
 use lib.Seq.{drop-set-lt}
 use Rattle.words.specs.Layout.{lengthPlace, recordHead}
 use Rattle.words.specs.Table.{lengthOf}
-use Rattle.table.proofs.Shifting.{tail-mid, tail-put}
+use Rattle.table.proofs.Shifting.{tail-put}
 use borrow.Author.Needs.{needs}
 use Rattle.table.proofs.record.take.Statement.{statement}
 use Rattle.table.proofs.record.take.Tie as tie
@@ -19,7 +20,7 @@ part-shift-start : tie.Need-part-shift-start
 part-shift-start c = simp length-set (omega arith)
 
 shift-requires : tie.Need-shift-requires
-shift-requires c κs = rw tail-mid (simp (length-drop, length-set) (omega arith))
+shift-requires c κs = rw part-to-end (simp (length-drop, length-set) (omega arith))
 
 same-length : tie.Need-same-length
 same-length c =
@@ -35,7 +36,7 @@ returns c =
     rw (
       tail-put,
       c .before .before .shift .ensures,
-      tail-mid,
+      part-to-end,
       drop-set-lt recordHead r lengthPlace (lengthOf r - 1) (omega arith),
     )
 
