@@ -1,7 +1,7 @@
 -- What decides, test after test, whether a slice holds a well-formed table. Assumes nothing.
 use Prim.Native.Nat.{ℕ, _<_, _≤_}
 use mathlib.Core.Path.{_≡_}
-use mathlib.Core.Bool.{true, false, and-false}
+use mathlib.Core.Bool.{Bool, false, _&&_, and-false}
 use mathlib.Core.List.{List}
 use native.Mathlib.Omega.{arith}
 use borrow.Author.Tests.{le-leb, lt-leb}
@@ -38,10 +38,7 @@ module _ (t : List ℕ) where
       pub inside : taking ≤ length t
       inside = omega (arith, words-in (countOf t) (capacityOf t) taken e .0)
 
-      pub by-idents : identsOk t ≡ false → false ≡ wellFormed t
+      -- the identities decide, then the records
+      pub by-idents : (b : Bool) → identsOk t ≡ b → (b && recordsOk t) ≡ wellFormed t
       unfolding wellFormed
-      by-idents i = rw (le-leb taking (length t) inside, words-in (countOf t) (capacityOf t) taken e .1, i)
-
-      pub by-records : identsOk t ≡ true → recordsOk t ≡ wellFormed t
-      unfolding wellFormed
-      by-records i = rw (le-leb taking (length t) inside, words-in (countOf t) (capacityOf t) taken e .1, i)
+      by-idents b i = rw (le-leb taking (length t) inside, words-in (countOf t) (capacityOf t) taken e .1, i)

@@ -112,11 +112,8 @@ module _ (t₀ schedule : List ℕ) (budget : ℕ) (t : List ℕ) (over : Bool) 
     here : i < length schedule
     here = omega (arith, g .upto, more)
 
-    moving : (R : Ring Proc Msg) → moveOf t x ≡ made R → move gateways n c (ringOf t) x ≡ made R
-    moving R e = rw (g .beside .count, g .beside .capacity) at e
-
-    refusing : (y : Refusal) → moveOf t x ≡ refused y → move gateways n c (ringOf t) x ≡ refused y
-    refusing y e = rw (g .beside .count, g .beside .capacity) at e
+    moving : (o : Out Proc Msg) → moveOf t x ≡ o → move gateways n c (ringOf t) x ≡ o
+    moving o e = rw (g .beside .count, g .beside .capacity) at e
 
     next : (o : Out Proc Msg) → move gateways n c (ringOf t) x ≡ o →
         running n c (drop (i + 1) schedule) (ringAfter (ringOf t) o) budget (taken + takenBy o) (skipped + skippedBy o)
@@ -131,7 +128,7 @@ module _ (t₀ schedule : List ℕ) (budget : ℕ) (t : List ℕ) (over : Bool) 
     moved : (R : Ring Proc Msg) → moveOf t x ≡ made R → length (rewritten t R) ≡ length t →
         Going t₀ schedule budget (rewritten t R) (isIn Leads R x) (i + 1) (taken + 1) skipped
     moved R e kept =
-        let e₀ = moving R e in
+        let e₀ = moving (made R) e in
         let ok = g .beside .formed in
         let ring = move-ring t ok x R e in
         record {
@@ -152,7 +149,7 @@ module _ (t₀ schedule : List ℕ) (budget : ℕ) (t : List ℕ) (over : Bool) 
       paid = g .paid;
       passed = omega (arith, g .passed);
       tells = g .tells;
-      same = rw (add-zero taken) at (next (refused y) (refusing y e));
+      same = rw (add-zero taken) at (next (refused y) (moving (refused y) e));
     }
 
     module _ (code : ℕ) (last : List ℕ) (e : (code, last) ≡ coded t x (moveOf t x)) (kept : length last ≡ length t)

@@ -81,16 +81,9 @@ module _ (s : List ℕ) where
     unfolding askedOf
     asked-headed = rw (le-ltb _ _ long)
 
-    pub asked-unsized : (x : Refusal) → sizeOf n c ≡ Size.Refused x → Asked.Refused x ≡ askedOf s
-    asked-unsized x e = ap (λ z. askedBy z (inTurn n (identityAt s)) n c) (sym e) ∙ asked-headed
-
-    pub asked-badly : (x : Refusal) (w : ℕ) → sizeOf n c ≡ Size.Words w → inTurn n (identityAt s) ≡ Answer.Refused x →
-        Asked.Refused x ≡ askedOf s
-    asked-badly x w e f = ap₂ (λ z a. askedBy z a n c) (sym e) (sym f) ∙ asked-headed
-
-    pub asked-well : (w : ℕ) → sizeOf n c ≡ Size.Words w → inTurn n (identityAt s) ≡ Answer.Done →
-        Asked.Ring n c ≡ askedOf s
-    asked-well w e f = ap₂ (λ z a. askedBy z a n c) (sym e) (sym f) ∙ asked-headed
+    -- by the size and the answer that they come to
+    pub asked-by : (z : Size) (a : Answer) → sizeOf n c ≡ z → inTurn n (identityAt s) ≡ a → askedBy z a n c ≡ askedOf s
+    asked-by z a e f = ap₂ (λ z a. askedBy z a n c) (sym e) (sym f) ∙ asked-headed
 
 -- n and c are within their limits
 abbrev pub Sizes : ℕ → ℕ → Type 0

@@ -31,9 +31,7 @@ use Rattle.trial.proofs.Asking.{
   first-refused,
   none-refused,
   asked-short,
-  asked-unsized,
-  asked-badly,
-  asked-well,
+  asked-by,
 }
 use Rattle.trial.proofs.Answers.{answerBy, answerOf}
 use Rattle.trial.proofs.Started.{distinct-done, repeated-four}
@@ -116,13 +114,14 @@ module _ (s : List ℕ) where
       number ≡ told (Answer.Refused (x (framesFrom s (w .0)))) .number
   first-decides Fault x read h (i, below, before, fault) =
       as-asked _
-      (asked-badly s (h .0) (x (framesFrom s i)) _ (size-given h)
+      (asked-by s (h .0) _ (Answer.Refused (x (framesFrom s i))) (size-given h)
       (sym (first-refused n (identityAt s) i _ below (λ k b. whole-is-read k (before k b)) (read _ fault))))
 
   -- else a ring is asked for, and its start decides
   ring-asked : Sized s → AllWhole s → Asked.Ring n c ≡ askedOf s
   ring-asked h all =
-      asked-well s (h .0) _ (size-given h) (sym (none-refused n (identityAt s) (λ k b. whole-is-read k (all k b))))
+      asked-by s (h .0) _ Answer.Done (size-given h)
+      (sym (none-refused n (identityAt s) (λ k b. whole-is-read k (all k b))))
 
   start-decides : Sized s → AllWhole s → (a : Answer) → startOf blank (identities s) c .0 ≡ a →
       number ≡ told a .number
@@ -145,12 +144,13 @@ module _ (s : List ℕ) where
       k ⊥
 
   is-one : AskWhy 1 → number ≡ 1
-  is-one w = as-asked _ (asked-unsized s (w .0) Count (rw (range-out mostProcesses n (w .1))))
+  is-one w = as-asked _ (asked-by s (w .0) (Size.Refused Count) _ (rw (range-out mostProcesses n (w .1))) refl)
 
   is-two : AskWhy 2 → number ≡ 2
   is-two w =
       as-asked _
-      (asked-unsized s (w .0) Capacity (rw (range-in mostProcesses n (w .1), range-out mostCapacity c (w .2))))
+      (asked-by s (w .0) (Size.Refused Capacity) _
+      (rw (range-in mostProcesses n (w .1), range-out mostCapacity c (w .2))) refl)
 
   is-eleven : AskWhy 11 → number ≡ 11
   is-eleven (inl short) = as-asked _ (asked-short s short)

@@ -1,9 +1,10 @@
 -- `shape::well_formed` tells whether a slice holds a well-formed table. Assumes nothing.
 use mathlib.Core.Path.{refl, sym, _∙_}
+use mathlib.Core.Bool.{true, false}
 use native.Mathlib.Omega.{arith}
 use borrow.Author.Needs.{needs}
 use borrow.Author.Tests.{not-true, not-false}
-use Rattle.shape.proofs.Verdicts.{no-head, no-size, no-room, inside, by-idents, by-records}
+use Rattle.shape.proofs.Verdicts.{no-head, no-size, no-room, inside, by-idents}
 use Rattle.shape.proofs.well_formed.Statement.{statement}
 use Rattle.shape.proofs.well_formed.Tie as tie
 
@@ -31,7 +32,7 @@ returns-3 c =
     by-idents (start .args .table .now) _
     (sym (c .before .before .before .before .before .taken .given .1)
     ∙ c .before .before .before .before .before .before .before .size .ensures)
-    (c .before .before .before .if2 .left)
+    (c .before .before .before .if2 .left) false
     (sym (c .before .idents-ok .ensures) ∙ not-true _ (c .if3 .taken))
 
 records-ok-requires : tie.Need-records-ok-requires
@@ -48,10 +49,10 @@ returns-5 c =
     let start =
     c .before .before .before .before .before .before .before .before .before .before .before .before .before in
     c .records-ok .ensures
-    ∙ by-records (start .args .table .now) _
+    ∙ by-idents (start .args .table .now) _
     (sym (c .before .before .before .before .before .before .taken .given .1)
     ∙ c .before .before .before .before .before .before .before .before .size .ensures)
-    (c .before .before .before .before .if2 .left)
+    (c .before .before .before .before .if2 .left) true
     (sym (c .before .before .idents-ok .ensures) ∙ not-false _ (c .before .if3 .left))
 
 pub well-formed-spec : {M : Type 1} → statement M

@@ -1,10 +1,10 @@
 -- `report::input::asked` answers what an input asks for. Assumes nothing.
-use mathlib.Core.Path.{sym, _∙_}
+use mathlib.Core.Path.{refl, sym, _∙_}
 use native.Mathlib.Omega.{arith}
 use borrow.Author.Needs.{needs}
 use Rattle.table.proofs.Answers.{size-fits}
 use Rattle.trial.specs.Input.{countIn, capacityIn}
-use Rattle.trial.proofs.Asking.{asked-short, asked-unsized, asked-badly, asked-well}
+use Rattle.trial.proofs.Asking.{asked-short, asked-by}
 use Rattle.report.proofs.input.asked.Statement.{statement}
 use Rattle.report.proofs.input.asked.Tie as tie
 
@@ -27,7 +27,7 @@ returns-2 c =
     let c3 = c .before .before .before in
     let s = c3 .before .before .before .before .before .args .input .now in
     let x = c .before .why .given in
-    asked-unsized s (c3 .before .before .before .if1 .left) (x .0 .0) (sym (c3 .size .ensures) ∙ x .1)
+    asked-by s (c3 .before .before .before .if1 .left) _ _ (sym (c3 .size .ensures) ∙ x .1) refl
 
 returns-3 : tie.Need-returns-3
 returns-3 c =
@@ -35,7 +35,7 @@ returns-3 c =
     let c6 = c4 .before .before in
     let s = c6 .before .before .before .before .before .args .input .now in
     let x = c .before .why2 .given in
-    asked-badly s (c6 .before .before .before .if1 .left) (x .0 .0) _
+    asked-by s (c6 .before .before .before .if1 .left) _ _
     (sym (c6 .size .ensures) ∙ c4 .enum-told .given .1)
     (sym (c .before .before .before .frames .ensures) ∙ x .1)
 
@@ -44,7 +44,7 @@ returns-4 c =
     let c3 = c .before .before .before in
     let c5 = c3 .before .before in
     let s = c5 .before .before .before .before .before .args .input .now in
-    asked-well s (c5 .before .before .before .if1 .left) _ (sym (c5 .size .ensures) ∙ c3 .enum-told .given .1)
+    asked-by s (c5 .before .before .before .if1 .left) _ _ (sym (c5 .size .ensures) ∙ c3 .enum-told .given .1)
     (sym (c .before .before .frames .ensures) ∙ c .enum-told2 .given .1)
 
 pub asked-spec : {M : Type 1} → statement M

@@ -1,12 +1,14 @@
 -- `report::input::identity` answers what bytes read as where an identity is to stand. Assumes nothing.
-use mathlib.Core.Path.{_∙_}
+use mathlib.Core.Path.{sym, ap, _∙_}
 use borrow.Author.Needs.{needs}
-use Rattle.report.proofs.Identity.{identity-none, identity-unknown, identity-active, identity-passive}
+use Rattle.wire.specs.declared.Head.the-variants.{Frame}
+use Rattle.trial.proofs.Identities.{missing-read}
+use Rattle.report.proofs.Identity.{identity-as}
 use Rattle.report.proofs.input.identity.Statement.{statement}
 use Rattle.report.proofs.input.identity.Tie as tie
 
 returns : tie.Need-returns
-returns c = identity-none (c .before .before .args .bytes .now) (c .if1 .taken)
+returns c = sym (missing-read (c .before .before .args .bytes .now) (c .if1 .taken))
 
 shared-slice-read-head-of : tie.Need-shared-slice-read-head-of
 shared-slice-read-head-of c = search needs
@@ -36,7 +38,7 @@ returns-2 : tie.Need-returns-2
 returns-2 c =
     let c3 = c .before .before .before in
     let s = c3 .before .before .before .before .args .bytes .now in
-    c .read .ensures ∙ identity-unknown s (c3 .head-of .result) (c3 .head-of .ensures) (c .before .enum-told .given .1)
+    c .read .ensures ∙ identity-as s (c3 .head-of .result) (c3 .head-of .ensures) (c .before .enum-told .given .1)
 
 returns-3 : tie.Need-returns-3
 returns-3 c =
@@ -45,8 +47,8 @@ returns-3 c =
     let s = c6 .before .before .before .before .args .bytes .now in
     let named = c4 .kind .given in
     c .read2 .ensures
-    ∙ identity-active s (c6 .head-of .result) (c6 .head-of .ensures) (named .0 .0) (named .0 .1 .0) (named .1)
-    (c .before .enum-told2 .given .1)
+    ∙ identity-as s (c6 .head-of .result) (c6 .head-of .ensures)
+    (named .1 ∙ ap (Frame (named .0 .0)) (c .before .enum-told2 .given .1))
 
 returns-4 : tie.Need-returns-4
 returns-4 c =
@@ -54,8 +56,8 @@ returns-4 c =
     let c5 = c3 .before .before in
     let s = c5 .before .before .before .before .args .bytes .now in
     let named = c3 .kind .given in
-    identity-passive s (c5 .head-of .result) (c5 .head-of .ensures) (named .0 .0) (named .0 .1 .0) (named .1)
-    (c .enum-told3 .given .1)
+    identity-as s (c5 .head-of .result) (c5 .head-of .ensures)
+    (named .1 ∙ ap (Frame (named .0 .0)) (c .enum-told3 .given .1))
 
 pub identity-spec : {M : Type 1} → statement M
 identity-spec =
