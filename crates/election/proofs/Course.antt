@@ -18,7 +18,7 @@ use Rattle.rounds.proofs.Last.{Last}
 use Rattle.clocks.proofs.Histories.{Keeps}
 use Rattle.clocks.proofs.Courses.{Course, Begins}
 use Rattle.election.specs.Deciding.{contest}
-use Rattle.election.proofs.Moments.{move-in-round}
+use Rattle.election.proofs.Moments.{in-round}
 use Rattle.election.proofs.Stages.{Stage, stageAfter}
 use Rattle.election.proofs.RoundByRound.{stageIn, history, tells, active-stays}
 use Rattle.election.proofs.Ending.{top, through, last-stage, last-sends, only-last, others-follow}
@@ -78,7 +78,7 @@ module _ (ids : List ℕ) (L : Last (contest ids) (largest ids)) where
   unfolding course
   other-end j l ne =
       ap (λ (x : Stage). x .process .state)
-      (move-in-round (stageIn ids j) (top ids L) (L .round) 2 (omega arith) (omega arith))
+      (in-round (stageIn ids j) 4 (top ids L) (L .round) 2 (omega arith) (omega arith))
       ∙ go (seatIn (contest ids) (L .round) j) (L .others (L .round) j (omega arith) l ne)
     where
       go : (s : Seat) → isHolding s ≡ 0 →

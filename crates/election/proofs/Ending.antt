@@ -18,7 +18,7 @@ use Rattle.rounds.specs.Seats.{isHolding}
 use Rattle.rounds.proofs.Last.{Last}
 use Rattle.clocks.proofs.Courses.{Follows}
 use Rattle.election.specs.Deciding.{contest}
-use Rattle.election.proofs.Moments.{move-in-round}
+use Rattle.election.proofs.Moments.{in-round}
 use Rattle.election.proofs.Stages.{stage, StayIn}
 use Rattle.election.proofs.SentAndGot.{sends-two, passes-on, leads-own, sends-one}
 use Rattle.election.proofs.RoundByRound.{seatAt, heardAt, stageIn, stageAt, history, DoesAt, does-at}
@@ -36,7 +36,7 @@ module _ (ids : List ℕ) (L : Last (contest ids) (largest ids)) where
   pub last-stage : stageAt ids (L .seat) (suc top) ≡
       stage (proc (identOf ids (L .seat)) Leads (largest ids) (largest ids) Passive) 1 1
   last-stage =
-      move-in-round (stageIn ids (L .seat)) (suc top) (L .round) 3 (omega arith) (omega arith)
+      in-round (stageIn ids (L .seat)) 4 (suc top) (L .round) 3 (omega arith) (omega arith)
       ∙ leads-own _ _ _ _ _ (L .is) (L .own)
 
   last-sends-one : (k : ℕ) → k < 4 → stageIn ids (L .seat) (L .round) k .sent ≤ 1
@@ -50,7 +50,7 @@ module _ (ids : List ℕ) (L : Last (contest ids) (largest ids)) where
       go (yes before) =
           omega (arith, sends-two (identOf ids (L .seat)) (seatAt ids (L .seat) m) (heardAt ids (L .seat) m) (m % 4))
       go (no now) =
-          let here = move-in-round (λ r k. stageIn ids (L .seat) r k .sent) m (L .round) (m % 4) in
+          let here = in-round (λ r k. stageIn ids (L .seat) r k .sent) 4 m (L .round) (m % 4) in
           omega (arith, here (omega arith) (omega arith), last-sends-one (m % 4) (omega arith))
 
   -- none but the last one ever wants nothing, and that one only at the end

@@ -15,7 +15,7 @@ use Rattle.rounds.specs.Contests.{seatIn, heardIn}
 use Rattle.rounds.proofs.Laps.{hears-sent}
 use Rattle.clocks.proofs.Histories.{History, Does, Keeps, Tells}
 use Rattle.election.specs.Deciding.{contest}
-use Rattle.election.proofs.Moments.{message-in-round, next-move}
+use Rattle.election.proofs.Moments.{in-round, next-move}
 use Rattle.election.proofs.Stages.{Stage, stageAfter, message, Retains, DoesIn, does}
 
 module _ (ids : List ℕ) where
@@ -43,7 +43,7 @@ module _ (ids : List ℕ) where
   }
 
   into-is : (j k r b : ℕ) → k ≡ 2 * r + b → b < 2 → history .into j k ≡ message (heardIn (contest ids) r j) b
-  into-is j k r b = message-in-round (λ r b. message (heardIn (contest ids) r j) b) k r b
+  into-is j k r b = in-round (λ r b. message (heardIn (contest ids) r j) b) 2 k r b
 
   module _ (j m : ℕ) where
     -- what its stages say of the next move
