@@ -1,21 +1,17 @@
 -- The rounds and the moves of document 01's rings, by its numbers, computed. Assumes nothing.
-use Prim.Native.Nat.{ℕ, zero, suc, _≤_}
+use Prim.Native.Nat.{_≤_}
 use mathlib.Core.Path.{_≡_, refl}
-use mathlib.Core.List.{List, [], _∷_}
+use mathlib.Core.List.{[], _∷_}
 use native.Mathlib.Decide.{decLt, ℕ-discrete}
 use native.Mathlib.Omega.{arith}
 use Rattle.ring.specs.Ring.{move, moves}
 use Rattle.ring.specs.Gateways.{gateways, started}
+use Rattle.ring.proofs.Examples.{turns}
 use Rattle.rounds.specs.Seats.{holds, passes, settled}
 use Rattle.rounds.specs.Contests.{seatIn}
 use Rattle.election.specs.Deciding.{contest, rounds}
 use Rattle.election.specs.Reaching.{carriedOut, mostMoves, movesToEnd}
 use Rattle.election.specs.Announcing.{announcements}
-
--- 0 and 1 in turn, k times
-abbrev turns : ℕ → List ℕ
-turns zero = []
-turns (suc k) = 0 ∷ 1 ∷ turns k
 
 -- ring 3, 7, 4: 0 hears 4 and 7, 1 hears 3 and 4, 2 hears 7 and 3, which beats its own 4
 pub record Ring374 : Type 0 where

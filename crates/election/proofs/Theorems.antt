@@ -21,6 +21,7 @@ use Rattle.words.specs.Table.{tableWords, ringOf}
 use Rattle.words.specs.WellFormed.{wellFormed}
 use Rattle.words.specs.Outcomes.{startOf, stepOf, leadsOf}
 use Rattle.words.specs.Calls.{Calls}
+use Rattle.words.proofs.Conditions.{conditions}
 use Rattle.words.proofs.Called.{called-same}
 use Rattle.election.specs.Deciding.{rounds}
 use Rattle.election.specs.Reaching.{
@@ -98,7 +99,7 @@ module _ (ids : List ℕ) (able : Electable ids) (c : ℕ) (choices : List ℕ) 
 
 -- which is well-formed.
 pub unreached-formed : wellFormed unreached ≡ true
-unreached-formed = Unreached.unreached-formed
+unreached-formed = conditions .fine
 
 -- 6. The ring at the announcement is the same for all choices that reach one, at any capacity,
 pub same-end : (ids : List ℕ) → Electable ids → (c c′ : ℕ) (choices choices′ : List ℕ) →

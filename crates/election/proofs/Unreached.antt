@@ -1,8 +1,7 @@
--- Document 01's table of a lone relay: it is well-formed, and nothing in it is active, so that no start reaches it.
+-- Document 01's table of a lone relay: nothing in it is active, so that no start reaches it.
 -- Assumes nothing.
 use Prim.Native.Nat.{ℕ}
 use mathlib.Core.Path.{_≡_, refl, sym, ap, _∙_}
-use mathlib.Core.Bool.{true}
 use mathlib.Core.List.{List, _++_}
 use mathlib.Core.Logic.{_≢_}
 use native.Mathlib.Omega.{arith}
@@ -17,15 +16,10 @@ use Rattle.ring.proofs.Good.{Good, good-move}
 use Rattle.ring.proofs.Choices.{after-keeps}
 use Rattle.ring.proofs.Started.{started-good}
 use Rattle.words.specs.Table.{ringOf}
-use Rattle.words.specs.WellFormed.{wellFormed}
-use Rattle.words.proofs.Conditions.{conditions}
 use Rattle.election.specs.Reaching.{Electable, reached, unreached}
 use Rattle.election.proofs.Elections.{largest-once}
 
-pub unreached-formed : wellFormed unreached ≡ true
-unreached-formed = conditions .fine
-
--- whatever words stand behind it
+-- its ring is the same whatever words stand behind it
 pub behind-same : (rest : List ℕ) → ringOf (unreached ++ rest) ≡ ringOf unreached
 unfolding ringOf
 behind-same rest = refl

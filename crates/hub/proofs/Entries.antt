@@ -16,7 +16,7 @@ use Rattle.refusal.specs.declared.Answer.{Answer}
 use Rattle.refusal.specs.declared.Answer.the-variants.{Done, Refused}
 use Rattle.refusal.specs.declared.Told.{Told}
 use Rattle.refusal.specs.Numbered.{numbered, told}
-use Rattle.refusal.proofs.Apart.{told-apart, numbered-never-zero}
+use Rattle.refusal.proofs.Apart.{told-apart, zero-done, numbered-never-zero}
 use Rattle.words.specs.declared.Ran.{Ran}
 use Rattle.words.specs.declared.Ran.the-variants as Ran
 use Rattle.words.specs.declared.Leading.{Leading}
@@ -185,16 +185,12 @@ message-told s f h z =
 
 -- calls from C are the calls of which demand 3 is proved --
 
-done-of : (a : Answer) → told a .number ≡ 0 → a ≡ Done
-done-of Done e = refl
-done-of (Refused x) e = absurd (omega (arith, numbered-never-zero x))
-
 -- a start that is told as done
 pub start-done : (t ids : List ℕ) (c : ℕ) (r : Told) (t′ : List ℕ) →
     (r, t′) ≡ toldOf (startOf t ids c) → r .number ≡ 0 → (Done, t′) ≡ startOf t ids c
 start-done t ids c r t′ h z =
-    let n = ap (λ p. p .0 .number) h in
-    ap₂ (λ a l. (a, l)) (sym (done-of (startOf t ids c .0) (sym n ∙ z))) (ap (λ p. p .1) h)
+    let done = zero-done (startOf t ids c .0) r (sym (ap (λ p. p .0) h)) z in
+    ap₂ (λ a l. (a, l)) (sym done) (ap (λ p. p .1) h)
 
 -- a move that is told as done is one taken
 taken-told : (a : Answer) → takenFor a ≡ cond (eqb (told a .number) 0) 1 0

@@ -73,7 +73,7 @@ numbers-apart r s n p =
     numbered-apart r s z
 
 -- an answer with number 0 is done
-zero-done : (a : Answer) (t : Told) → told a ≡ t → t .number ≡ 0 → a ≡ Done
+pub zero-done : (a : Answer) (t : Told) → told a ≡ t → t .number ≡ 0 → a ≡ Done
 unfolding named
 zero-done a t e z = sym (named-told a) ∙ ap named e ∙ rw z
 

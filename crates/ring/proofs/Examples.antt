@@ -23,7 +23,7 @@ abbrev after59 : List ℕ → Ring Proc Msg
 after59 js = after gateways 2 1 start59 js
 
 -- 0 and 1 in turn, k times
-abbrev turns : ℕ → List ℕ
+abbrev pub turns : ℕ → List ℕ
 turns zero = []
 turns (suc k) = 0 ∷ 1 ∷ turns k
 

@@ -4,8 +4,7 @@ use mathlib.Core.Path.{_≡_, refl}
 use mathlib.Core.List.{List, [], _∷_}
 use native.Mathlib.Decide.{decLt, ℕ-discrete}
 use lib.ListN.{replicate}
-use Rattle.refusal.specs.declared.Told.{Told}
-use Rattle.refusal.specs.Numbered.{tell, told}
+use Rattle.refusal.specs.Numbered.{tell}
 use Rattle.ring.specs.Ring.{move}
 use Rattle.ring.specs.Runs.{runFrom}
 use Rattle.ring.specs.Gateways.{started, hasLeader, leaderOf}
@@ -14,13 +13,7 @@ use Rattle.words.specs.declared.Leading.the-variants.{Leader, Nobody}
 use Rattle.words.specs.Table.{recordWords, tableWords, ringOf}
 use Rattle.words.specs.WellFormed.{wellFormed}
 use Rattle.words.specs.Outcomes.{startOf, stepOf, runOf, runTold, leadsOf, leadTold}
-
--- what a start and a step answer in numbers
-abbrev startTold : List ℕ → List ℕ → ℕ → Told
-startTold t ids c = told (startOf t ids c .0)
-
-abbrev stepTold : List ℕ → ℕ → Told
-stepTold t j = told (stepOf t j .0)
+use Rattle.words.proofs.GivenWhen.{startTold, stepTold}
 
 -- a start's refusals, each before those behind it
 pub record Starts : Type 0 where

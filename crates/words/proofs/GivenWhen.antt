@@ -147,7 +147,8 @@ told-exactly : (Why : ℕ → Type 0) (a : Told) → Why (a .number) → (n p : 
 told-exactly Why a why n p f = exactly Why (a .number) why n (λ w. ap (λ (b : Told). b .number) (f w))
 
 module _ (t ids : List ℕ) (c : ℕ) where
-  abbrev startTold : Told
+  -- what a start answers, in numbers
+  abbrev pub startTold : Told
   startTold = told (startOf t ids c .0)
 
   -- the reason for each number of a start
@@ -203,7 +204,8 @@ module _ (t ids : List ℕ) (c : ℕ) where
       }
 
 module _ (t : List ℕ) (j : ℕ) where
-  abbrev stepTold : Told
+  -- what a step answers, in numbers
+  abbrev pub stepTold : Told
   stepTold = told (stepOf t j .0)
 
   -- the reason for each number of a step
