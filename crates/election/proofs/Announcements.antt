@@ -69,7 +69,7 @@ Enters stays = Unit {0}
 
 asked-enters : (p : Proc) (w : Asked.Want) → Wanting p w → Enters (wanted p w)
 asked-enters p (Puts m q) h = ap bit (h .leads)
-asked-enters p Takes h = λ m q e. ap bit (subst Taking (right-made (took p m) q e) (took-changes p m))
+asked-enters p Takes h = λ m q e. ap bit (subst (Taking p) (right-made (took p m) q e) (took-changes p m) .quiet)
 asked-enters p (Announces q) h = ap bit (h .leads)
 asked-enters p Ends h = tt
 

@@ -1,5 +1,5 @@
--- Putting and announcing change the state of a process alone, and only an announcement leads to state 6.
--- Assumes nothing.
+-- Putting and announcing change the state of a process alone, taking keeps its identity, and only an announcement leads
+-- to state 6. Assumes nothing.
 use Prim.Native.Nat.{ℕ, max, _<_}
 use mathlib.Core.Path.{_≡_, refl}
 use mathlib.Core.Bool.{Bool, true, false}
@@ -28,6 +28,11 @@ pub record Entered (leading : Bool) (p q : Proc) : Type 0 where
   pub alone : q ≡ inState (q .state) p
   pub leads : isLeading q ≡ leading
 
+-- p has its identity still, and is not in state 6
+pub record Turned (p q : Proc) : Type 0 where
+  pub same : q .ident ≡ p .ident
+  pub quiet : isLeading q ≡ false
+
 -- what p becomes by what it wants
 abbrev pub Wanting : Proc → Want → Type 0
 Wanting p (Puts m q) = Entered false p q
@@ -36,9 +41,9 @@ Wanting p (Announces q) = Entered true p q
 Wanting p Ends = Unit {0}
 
 -- and by a message that it takes
-abbrev pub Taking : Took → Type 0
-Taking (Becomes q) = isLeading q ≡ false
-Taking Wrong = Unit {0}
+abbrev pub Taking : Proc → Took → Type 0
+Taking p (Becomes q) = Turned p q
+Taking p Wrong = Unit {0}
 
 wanting-in : (s : State) (p : Proc) → Wanting p (rowIn s p)
 wanting-in Sends p = record { alone = refl; leads = refl }
@@ -54,29 +59,29 @@ wanting-in Relays p = tt
 wanting-in Carries p = record { alone = refl; leads = refl }
 wanting-in Leads p = tt
 
-decides-on : (p : Proc) (v : ℕ) → isLeading (decides p v) ≡ false
+decides-on : (p : Proc) (v : ℕ) → Turned p (decides p v)
 decides-on p v = go (decLt (max (p .d) v) (p .e))
   where
     go : (t : Dec (max (p .d) v < p .e)) →
-        isLeading (ite t (inState Sends (withD (p .e) p)) (inState Relays (withB Passive p))) ≡ false
-    go (yes h) = refl
-    go (no h) = refl
+        Turned p (ite t (inState Sends (withD (p .e) p)) (inState Relays (withB Passive p)))
+    go (yes h) = record { same = refl; quiet = refl }
+    go (no h) = record { same = refl; quiet = refl }
 
-taking-in : (s : State) (k : Kind) (p : Proc) (v : ℕ) → Taking (tookIn s k p v)
+taking-in : (s : State) (k : Kind) (p : Proc) (v : ℕ) → Taking p (tookIn s k p v)
 taking-in Sends k p v = tt
-taking-in Listens Active p v = refl
+taking-in Listens Active p v = record { same = refl; quiet = refl }
 taking-in Listens Passive p v = tt
 taking-in Compares k p v = tt
 taking-in Decides Active p v = tt
 taking-in Decides Passive p v = decides-on p v
-taking-in Relays k p v = refl
+taking-in Relays k p v = record { same = refl; quiet = refl }
 taking-in Carries k p v = tt
 taking-in Leads k p v = tt
 
 pub row-changes : (p : Proc) → Wanting p (row p)
 row-changes p = wanting-in (p .state) p
 
-pub took-changes : (p : Proc) (m : Msg) → Taking (took p m)
+pub took-changes : (p : Proc) (m : Msg) → Taking p (took p m)
 took-changes p m = taking-in (p .state) (m .kind) p (m .value)
 
 -- the same where the want is known

@@ -16,8 +16,7 @@ use Rattle.gateway.specs.declared.Want.the-variants.{Puts, Takes, Announces}
 use Rattle.gateway.specs.declared.Took.{Took}
 use Rattle.gateway.specs.declared.Took.the-variants.{Becomes, Wrong}
 use Rattle.gateway.specs.Row.{inState, row, took}
-use Rattle.gateway.proofs.Changes.{isLeading, Taking, took-changes, puts-changes, announces-changes}
-use Rattle.gateway.proofs.SameIdentity.{Taken, took-same}
+use Rattle.gateway.proofs.Changes.{isLeading, Turned, took-changes, puts-changes, announces-changes}
 use Rattle.rows.proofs.Tests.{ite-lt, ite-le}
 use Rattle.ring.specs.Ring.{Ring, puts, announces, prev, queueOf, becoming, putting, taking}
 use Rattle.ring.specs.Gateways.{gateways, starting, procAt, wanted}
@@ -193,16 +192,17 @@ module _ (t : List ℕ) (n c : ℕ) (f : Formed t n c) where
         w : took p m ≡ Becomes p′
         w = sym ex ∙ e
 
+        turned : Turned p p′
+        turned = rw w at (took-changes p m)
+
         became-laid : Laid t₁ n c (becoming (ringOf t) j p′) (restOf t)
-        became-laid =
-            let same : Taken (p .ident) (Becomes p′) = rw w at (took-same p m) in
-            record {
-              image =
-                  e₁ ∙ became t n c (ringOf t) (restOf t) laid j (below-n j below) p′
-                  (same ∙ ap (λ (p : Proc). p .ident) ep);
-              procs = simp length-set (laid .procs);
-              queues = laid .queues;
-            }
+        became-laid = record {
+          image =
+              e₁ ∙ became t n c (ringOf t) (restOf t) laid j (below-n j below) p′
+              (turned .same ∙ ap (λ (p : Proc). p .ident) ep);
+          procs = simp length-set (laid .procs);
+          queues = laid .queues;
+        }
 
         -- the queue is as it was
         pub still-some : 1 ≤ lengthOf (recordAt t₁ c i)
@@ -217,11 +217,10 @@ module _ (t : List ℕ) (n c : ℕ) (f : Formed t n c) where
             let R = ringOf t in
             let q = front in
             let fits : length (queueOf R i) ≤ c = rw (f .capacity) (so .good .fitting i i-below) in
-            let quiet : Taking (Becomes p′) = rw w at (took-changes p m) in
             let words : t₂ ≡ tableWords n c (taking R j i (q .0) p′) ++ restOf t =
             e₂
             ∙ took-is t₁ n c (becoming R j p′) (restOf t) became-laid i (below-n i i-below) m (q .0) (q .1) fits in
-            rw (← ei-t, q .1, w, there j below p′, quiet, rewrites (taking R j i (q .0) p′) t₂ words)
+            rw (← ei-t, q .1, w, there j below p′, turned .quiet, rewrites (taking R j i (q .0) p′) t₂ words)
 
   -- what the row asks is what the choice comes to
   pub by-row : (j : ℕ) → j < countOf t → (p : Proc) → p ≡ procAt (ringOf t) j → (w : Asked.Want) → w ≡ row p →
