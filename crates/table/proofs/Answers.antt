@@ -30,7 +30,6 @@ use Rattle.gateway.specs.declared.Msg.{Msg}
 use Rattle.ring.specs.Ring.{Ring, refused, made}
 use Rattle.ring.specs.Identities.{firstRepeat}
 use Rattle.ring.specs.Gateways.{gateways, procAt, started, isIn, leaderOf}
-use Rattle.ring.proofs.Tests.{and-left}
 use Rattle.ring.proofs.Moves.{Case, c-made, c-full, c-empty, c-wrong, c-over, case-of, move-out}
 use Rattle.words.specs.declared.Size.{Size}
 use Rattle.words.specs.declared.Size.the-variants as Size
@@ -40,7 +39,7 @@ use Rattle.words.specs.Layout.{mostProcesses, mostCapacity, tableHead, tableLen
 use Rattle.words.specs.Table.{tableWords, countOf, capacityOf, ringOf}
 use Rattle.words.specs.WellFormed.{inRange, wellFormed}
 use Rattle.words.specs.Outcomes.{sizeOf, startOf, rewritten, stepped, stepOf, leadsOf}
-use Rattle.words.proofs.Ranges.{range-is}
+use Rattle.words.proofs.Ranges.{both-sized}
 use Rattle.words.proofs.Sizes.{sizeBy, words-in}
 use Rattle.words.proofs.Sound.{formed-sound}
 use Rattle.table.specs.Inside.{Formed, codeMoved, codeAnnounced, coded, moveOf, answerOf}
@@ -58,9 +57,7 @@ module _ (t : List ℕ) (ok : wellFormed t ≡ true) where
 -- a table that has a size is within its limits
 pub size-fits : (n c w : ℕ) → sizeOf n c ≡ Size.Words w → (n ≤ mostProcesses) × (w ≡ tableLength n c)
 size-fits n c w e =
-    let given = words-in n c w (sym e) in
-    let few = and-left (inRange mostProcesses n) (inRange mostCapacity c) (given .1) in
-    (range-is mostProcesses n few .1, given .0)
+    let given = words-in n c w (sym e) in (both-sized n c (given .1) .few, given .0)
 
 module _ (t ids : List ℕ) (c : ℕ) where
   -- a start, by what its size is

@@ -12,15 +12,12 @@ use Rattle.refusal.specs.declared.Refusal.{Refusal}
 use Rattle.refusal.specs.declared.Refusal.the-variants.{NoByte}
 use Rattle.refusal.specs.declared.Answer.{Answer}
 use Rattle.refusal.specs.declared.Answer.the-variants as Answer
-use Rattle.ring.proofs.Tests.{and-left, and-right}
 use Rattle.wire.specs.declared.Reading.{Reading}
 use Rattle.wire.specs.declared.Reading.the-variants.{Message, Refused}
 use Rattle.words.specs.declared.Size.{Size}
 use Rattle.words.specs.declared.Size.the-variants as Size
-use Rattle.words.specs.Layout.{mostProcesses, mostCapacity}
-use Rattle.words.specs.WellFormed.{inRange}
 use Rattle.words.specs.Outcomes.{sizeOf}
-use Rattle.words.proofs.Ranges.{Within, range-is}
+use Rattle.words.proofs.Ranges.{Sized, both-sized}
 use Rattle.words.proofs.Sizes.{words-in}
 use Rattle.trial.specs.declared.Asked.{Asked}
 use Rattle.trial.specs.declared.Asked.the-variants as Asked
@@ -85,31 +82,21 @@ module _ (s : List ℕ) where
     pub asked-by : (z : Size) (a : Answer) → sizeOf n c ≡ z → inTurn n (identityAt s) ≡ a → askedBy z a n c ≡ askedOf s
     asked-by z a e f = ap₂ (λ z a. askedBy z a n c) (sym e) (sym f) ∙ asked-headed
 
--- n and c are within their limits
-abbrev pub Sizes : ℕ → ℕ → Type 0
-Sizes n c = Within mostProcesses n × Within mostCapacity c
-
-sized : (n c w : ℕ) → sizeOf n c ≡ Size.Words w → Sizes n c
-sized n c w q =
-    let a = inRange mostProcesses n in
-    let b = inRange mostCapacity c in
-    let both = words-in n c w (sym q) .1 in
-    (range-is mostProcesses n (and-left a b both), range-is mostCapacity c (and-right a b both))
-
 -- a ring that is asked for is within the limits, and of the header's numbers
 pub asked-ring : (s : List ℕ) (n c : ℕ) → askedOf s ≡ Asked.Ring n c →
-    Sizes n c × (n ≡ countIn s) × (c ≡ capacityIn s)
+    Sized n c × (n ≡ countIn s) × (c ≡ capacityIn s)
 unfolding askedOf
 asked-ring s n c e =
     go (ltb (length s) headerLength) (sizeOf (countIn s) (capacityIn s)) refl (inTurn (countIn s) (identityAt s)) e
   where
     go : (short : Bool) (z : Size) → sizeOf (countIn s) (capacityIn s) ≡ z → (frames : Answer) →
         cond short (Asked.Refused NoByte) (askedBy z frames (countIn s) (capacityIn s)) ≡ Asked.Ring n c →
-        Sizes n c × (n ≡ countIn s) × (c ≡ capacityIn s)
+        Sized n c × (n ≡ countIn s) × (c ≡ capacityIn s)
     go true z q frames e = absurd (true≢false (cc))
     go false (Size.Refused x) q frames e = absurd (true≢false (cc))
     go false (Size.Words w) q (Answer.Refused x) e = absurd (true≢false (cc))
     go false (Size.Words w) q Answer.Done e =
         let m : countIn s ≡ n = cc in
         let d : capacityIn s ≡ c = cc in
-        (rw (m, d) at (sized (countIn s) (capacityIn s) w q), sym m, sym d)
+        let sized = both-sized (countIn s) (capacityIn s) (words-in (countIn s) (capacityIn s) w (sym q) .1) in
+        (rw (m, d) at sized, sym m, sym d)

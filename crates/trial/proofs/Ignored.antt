@@ -128,7 +128,7 @@ module _ (s more : List ℕ) (headed : headerLength ≤ length s)
         go (Asked.Refused x) e = refl
         go (Asked.Ring n c) e =
             let same : n ≡ countIn s = asked-ring s n c e .1 in
-            let few : countIn s ≤ mostProcesses = omega (arith, same, asked-ring s n c e .0 .0 .1) in
+            let few : countIn s ≤ mostProcesses = omega (arith, same, asked-ring s n c e .0 .few) in
             let ids : identitiesIn n (s ++ more) ≡ identitiesIn n s = rw same (identities-more few) in
             let schedule : scheduleIn n (s ++ more) ≡ scheduleIn n s = rw same (schedule-more few) in
             ap₂ (λ l k. startText (startOf blank l c) k (budget n)) ids schedule

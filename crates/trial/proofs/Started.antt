@@ -15,19 +15,19 @@ use Rattle.ring.proofs.Identity.{unrepeated-distinct, distinct-unrepeated}
 use Rattle.words.specs.Layout.{mostProcesses, mostCapacity, recordWidth, tableLength}
 use Rattle.words.specs.Outcomes.{startOf}
 use Rattle.words.proofs.Blocks.{length-firsts}
-use Rattle.words.proofs.Ranges.{Within}
+use Rattle.words.proofs.Ranges.{Within, Sized}
 use Rattle.words.proofs.ToldFor.{start-repeated, start-done}
 use Rattle.trial.specs.declared.Asked.{Asked}
 use Rattle.trial.specs.declared.Asked.the-variants as Asked
 use Rattle.trial.specs.Input.{identityAt, valueIn, identitiesIn, askedOf}
 use Rattle.trial.specs.Report.{blank}
-use Rattle.trial.proofs.Asking.{Sizes, asked-ring}
+use Rattle.trial.proofs.Asking.{asked-ring}
 
 -- there is room for every table that a start may lay
-blank-long : (n c : ℕ) → Sizes n c → tableLength n c ≤ length blank
+blank-long : (n c : ℕ) → Sized n c → tableLength n c ≤ length blank
 blank-long n c z =
     let w = recordWidth c in
-    let most = mul-le-mul {n₁ = n} {m₁ = w} {m₂ = recordWidth mostCapacity} (z .0 .1) (omega (arith, z .1 .1)) in
+    let most = mul-le-mul {n₁ = n} {m₁ = w} {m₂ = recordWidth mostCapacity} (z .few) (omega (arith, z .small)) in
     rw (length-replicate {A = ℕ} (tableLength mostProcesses mostCapacity) 0) (omega (arith, most))
 
 -- an input that asks for a ring of n at capacity c
@@ -37,7 +37,7 @@ module _ (s : List ℕ) (n c : ℕ) (asked : askedOf s ≡ Asked.Ring n c) where
       × (tableLength (length (identitiesIn n s)) c ≤ length blank)
   fine =
       let z = asked-ring s n c asked .0 in
-      rw (length-firsts n (λ i. valueIn (identityAt s i))) (z .0, z .1, blank-long n c z)
+      rw (length-firsts n (λ i. valueIn (identityAt s i))) ((z .some, z .few), (z .roomy, z .small), blank-long n c z)
 
   -- Identities that are pairwise different are started,
   pub distinct-done : Distinct (identitiesIn n s) → startOf blank (identitiesIn n s) c .0 ≡ Done

@@ -1,7 +1,7 @@
 -- The words of a ring that fits, of different identities, are well-formed. Assumes nothing.
 use Prim.Native.Nat.{ℕ, _<_}
 use mathlib.Core.Path.{_≡_, sym, ap, _∙_}
-use mathlib.Core.Bool.{true, _&&_}
+use mathlib.Core.Bool.{true}
 use mathlib.Core.List.{List, _++_}
 use borrow.Author.Tests.{le-leb}
 use Rattle.gateway.specs.declared.Proc.{Proc}
@@ -12,21 +12,12 @@ use Rattle.ring.specs.Gateways.{procAt}
 use Rattle.ring.proofs.Scans.{all-of}
 use Rattle.ring.proofs.Good.{Good}
 use Rattle.ring.proofs.Identity.{same-distinct, distinct-fresh}
-use Rattle.words.specs.Layout.{mostProcesses, mostCapacity}
 use Rattle.words.specs.Table.{recordWords, tableWords, capacityOf, recordAt, readProc}
-use Rattle.words.specs.WellFormed.{inRange, longOk, sizesOk, identAt, identsOk, recordOk, recordsOk, wellFormed}
+use Rattle.words.specs.WellFormed.{longOk, sizesOk, identAt, identsOk, recordOk, recordsOk, wellFormed}
 use Rattle.words.proofs.Records.{record-ok, read-proc}
-use Rattle.words.proofs.Sound.{Sized, DistinctIn, ident-word}
+use Rattle.words.proofs.Ranges.{Sized, sized-both}
+use Rattle.words.proofs.Sound.{DistinctIn, ident-word}
 use Rattle.words.proofs.Tables.{count-back, capacity-back, table-long, record-back}
-
-sizes-pass : (n c : ℕ) → Sized n c → (inRange mostProcesses n && inRange mostCapacity c) ≡ true
-sizes-pass n c s =
-    rw (
-      le-leb 1 n (s .some),
-      le-leb n mostProcesses (s .few),
-      le-leb 1 c (s .roomy),
-      le-leb c mostCapacity (s .small),
-    )
 
 all-pass : (t : List ℕ) → longOk t ≡ true → sizesOk t ≡ true → identsOk t ≡ true → recordsOk t ≡ true →
     wellFormed t ≡ true
@@ -52,7 +43,7 @@ module _ (n c : ℕ) (R : Ring Proc Msg) (rest : List ℕ) (s : Sized n c) (g : 
       let cc = capacity-back n c R rest in
       all-pass table
       (rw (cn, cc) (le-leb _ _ (table-long n c R rest)))
-      (rw (cn, cc) (sizes-pass n c s))
+      (rw (cn, cc) (sized-both n c s))
       (rw cn
       (all-of (isFresh (identAt table)) n
       (distinct-fresh (identAt table) n (same-distinct n (λ j. procAt R j .ident) (identAt table) ident-is d))))

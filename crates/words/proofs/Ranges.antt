@@ -1,11 +1,12 @@
--- A number is in range exactly where the test of it passes. Assumes nothing.
+-- A number is in range exactly where the test of it passes, and so are the two sizes of a table. Assumes nothing.
 use Prim.Native.Nat.{ℕ, _≤_}
 use mathlib.Core.Path.{_≡_, refl}
-use mathlib.Core.Bool.{Bool, true, false}
+use mathlib.Core.Bool.{Bool, true, false, _&&_}
 use native.Mathlib.Decide.{decLe}
 use borrow.Author.Tests.{leb-true, le-leb}
 use lib.Dec.{leb}
 use Rattle.ring.proofs.Tests.{and-left, and-right}
+use Rattle.words.specs.Layout.{mostProcesses, mostCapacity}
 use Rattle.words.specs.WellFormed.{inRange}
 
 -- a number is 1 to the most that it may be
@@ -34,3 +35,27 @@ module _ (most n : ℕ) where
       both (yes a) (yes b) = yes (a, b)
       both (no a) b = no (λ h. a (h .0))
       both (yes a) (no b) = no (λ h. b (h .1))
+
+-- the sizes that document 01 allows
+pub record Sized (n c : ℕ) : Type 0 where
+  pub some : 1 ≤ n
+  pub few : n ≤ mostProcesses
+  pub roomy : 1 ≤ c
+  pub small : c ≤ mostCapacity
+
+module _ (n c : ℕ) where
+  pub sized-is : inRange mostProcesses n ≡ true → inRange mostCapacity c ≡ true → Sized n c
+  sized-is a b =
+      let (some, few) = range-is mostProcesses n a in
+      let (roomy, small) = range-is mostCapacity c b in
+      record { some = some; few = few; roomy = roomy; small = small }
+
+  -- the same of the one test of both
+  pub both-sized : (inRange mostProcesses n && inRange mostCapacity c) ≡ true → Sized n c
+  both-sized e =
+      let a = inRange mostProcesses n in
+      let b = inRange mostCapacity c in
+      sized-is (and-left a b e) (and-right a b e)
+
+  pub sized-both : Sized n c → (inRange mostProcesses n && inRange mostCapacity c) ≡ true
+  sized-both s = rw (range-in mostProcesses n (s .some, s .few), range-in mostCapacity c (s .roomy, s .small))

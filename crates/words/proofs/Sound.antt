@@ -7,7 +7,6 @@ use native.Mathlib.Omega.{arith}
 use borrow.Author.Tests.{leb-true}
 use lib.ListN.{length, take, drop}
 use lib.Seq.{getD-take, getD-drop}
-use lib.Dec.{leb}
 use Rattle.gateway.specs.declared.Proc.{Proc}
 use Rattle.gateway.specs.declared.Msg.{Msg}
 use Rattle.ring.specs.Ring.{Ring, queueOf}
@@ -17,7 +16,7 @@ use Rattle.ring.proofs.Tests.{and-left, and-right}
 use Rattle.ring.proofs.Scans.{all-at}
 use Rattle.ring.proofs.Good.{Good}
 use Rattle.ring.proofs.Identity.{same-distinct, fresh-distinct}
-use Rattle.words.specs.Layout.{mostProcesses, mostCapacity, recordHead, recordWidth, recordPlace, tableLength}
+use Rattle.words.specs.Layout.{recordHead, recordWidth, recordPlace, tableLength}
 use Rattle.words.specs.Table.{
   recordWords,
   tableWords,
@@ -29,18 +28,12 @@ use Rattle.words.specs.Table.{
   lengthOf,
   ringOf,
 }
-use Rattle.words.specs.WellFormed.{inRange, longOk, sizesOk, identAt, identsOk, recordOk, recordsOk, wellFormed}
+use Rattle.words.specs.WellFormed.{longOk, sizesOk, identAt, identsOk, recordOk, recordsOk, wellFormed}
 use Rattle.words.specs.Outcomes.{rewritten}
+use Rattle.words.proofs.Ranges.{Sized, both-sized}
 use Rattle.words.proofs.Blocks.{length-firsts, firsts-at, blocks-same, blocks-cut}
 use Rattle.words.proofs.Records.{length-read, length-fits, record-image}
 use Rattle.words.proofs.Tables.{record-inside, record-length, past-head}
-
--- the sizes that document 01 allows
-pub record Sized (n c : ℕ) : Type 0 where
-  pub some : 1 ≤ n
-  pub few : n ≤ mostProcesses
-  pub roomy : 1 ≤ c
-  pub small : c ≤ mostCapacity
 
 -- no two processes of a ring have one identity
 abbrev pub DistinctIn : ℕ → Ring Proc Msg → Type 0
@@ -84,18 +77,7 @@ module _ (t : List ℕ) (ok : wellFormed t ≡ true) where
   long = leb-true _ _ (and-left (longOk t) (sizesOk t) upto-sizes)
 
   sized : Sized (countOf t) (capacityOf t)
-  sized =
-      let n = countOf t in
-      let c = capacityOf t in
-      let both = and-right (longOk t) (sizesOk t) upto-sizes in
-      let ns = and-left (inRange mostProcesses n) (inRange mostCapacity c) both in
-      let cs = and-right (inRange mostProcesses n) (inRange mostCapacity c) both in
-      record {
-        some = leb-true _ _ (and-left (leb 1 n) (leb n mostProcesses) ns);
-        few = leb-true _ _ (and-right (leb 1 n) (leb n mostProcesses) ns);
-        roomy = leb-true _ _ (and-left (leb 1 c) (leb c mostCapacity) cs);
-        small = leb-true _ _ (and-right (leb 1 c) (leb c mostCapacity) cs);
-      }
+  sized = both-sized (countOf t) (capacityOf t) (and-right (longOk t) (sizesOk t) upto-sizes)
 
   distinct : DistinctIn (countOf t) (ringOf t)
   distinct =

@@ -18,9 +18,8 @@ use Rattle.words.specs.Layout.{mostProcesses, mostCapacity, tableLength}
 use Rattle.words.specs.Table.{tableWords, countOf, capacityOf, ringOf}
 use Rattle.words.specs.WellFormed.{inRange, wellFormed}
 use Rattle.words.specs.Outcomes.{startOf}
-use Rattle.words.proofs.Ranges.{range-is}
+use Rattle.words.proofs.Ranges.{Sized, sized-is}
 use Rattle.words.proofs.Tables.{count-back, capacity-back, ring-back}
-use Rattle.words.proofs.Sound.{Sized}
 use Rattle.words.proofs.Formed.{words-formed}
 
 -- what a start that was not refused found, and what it left
@@ -43,10 +42,8 @@ start-ready t ids c done =
     let p2 = passed (not (inRange mostCapacity c)) Capacity t _ (p1 .1) in
     let p3 = passed (ltb (length t) (tableLength n c)) Short t _ (p2 .1) in
     let p4 = passed (ltb (firstRepeat ids) n) (Repeated (firstRepeat ids)) t _ (p3 .1) in
-    let rn = range-is mostProcesses n (not-false _ (p1 .0)) in
-    let rc = range-is mostCapacity c (not-false _ (p2 .0)) in
     record {
-      sized = record { some = rn .0; few = rn .1; roomy = rc .0; small = rc .1 };
+      sized = sized-is n c (not-false _ (p1 .0)) (not-false _ (p2 .0));
       distinct = unrepeated-distinct ids (ltb-false (firstRepeat ids) n (p4 .0));
       words = rw (p1 .0, p2 .0, p3 .0, p4 .0);
     }

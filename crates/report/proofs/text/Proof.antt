@@ -11,8 +11,7 @@ ring-requires c κs =
     let c4 = c .before .before .before .before in
     asked-ring (c4 .before .before .args .input .now) _ _ (sym (c4 .asked .ensures) ∙ c .before .before .n .given .1)
     .0
-    .0
-    .1
+    .few
 
 returns : tie.Need-returns
 returns c =
