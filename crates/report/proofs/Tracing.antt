@@ -1,8 +1,7 @@
 -- The state word of a process, and the lines of the steps that choices take. Assumes nothing.
-use Prim.Native.Nat.{ℕ, _+_, _*_, _≤_, _<_, _^_}
+use Prim.Native.Nat.{ℕ, _+_, _*_, _≤_, _<_}
 use mathlib.Core.Path.{_≡_, refl, sym, ap, _∙_}
 use mathlib.Core.List.{List, _∷_}
-use native.Mathlib.Nat.{mul-le-mul}
 use native.Mathlib.Numerals.{add-one}
 use native.Mathlib.Omega.{arith}
 use lib.ListN.{length, getD, drop, List·getD-eq-default, drop-of-length-le}
@@ -10,18 +9,13 @@ use lib.Seq.{drop-cons}
 use Rattle.refusal.specs.declared.Refusal.{Refusal}
 use Rattle.refusal.specs.declared.Answer.{Answer}
 use Rattle.refusal.specs.declared.Answer.the-variants.{Done, Refused}
-use Rattle.words.specs.Layout.{statePlace, recordWidth, recordPlace}
+use Rattle.words.specs.Layout.{statePlace, recordPlace}
 use Rattle.words.specs.Table.{capacityOf}
 use Rattle.words.specs.Outcomes.{stepOf}
 use Rattle.trial.specs.Trace.{Step, stateWord, stepFrom, taken, traceOf}
 use Rattle.trial.specs.Text.{stepLine, stepLines}
 use Rattle.report.specs.Inside.{Room, wrote, step, stepRoom}
 use Rattle.report.proofs.Laid.{wrote-both, wrote-nothing}
-
--- a byte times the words of a record
-pub place-small : (j c w : ℕ) → j < 256 → c < 2 ^ 32 → w ≡ recordWidth c → j * w ≤ 255 * recordWidth (2 ^ 32)
-place-small j c w few small e =
-    mul-le-mul {n₁ = j} {m₁ = w} {n₂ = 255} {m₂ = recordWidth (2 ^ 32)} (omega (arith, few)) (omega (arith, small, e))
 
 -- past the last word there is none
 pub state-past : (t : List ℕ) (j : ℕ) → length t ≤ recordPlace (capacityOf t) j + statePlace → 0 ≡ stateWord t j

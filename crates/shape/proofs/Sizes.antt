@@ -1,14 +1,11 @@
--- The limits of a table, and how many words its records take at most. Assumes nothing.
-use Prim.Native.Nat.{ℕ, _*_, _<_, _≤_}
+-- The tests that the code makes of a limit. Assumes nothing.
+use Prim.Native.Nat.{ℕ, _<_, _≤_}
 use mathlib.Core.Path.{_≡_}
 use mathlib.Core.Bool.{true, false}
-use native.Mathlib.Nat.{mul-le-mul-right}
 use native.Mathlib.Omega.{arith}
-use Rattle.words.specs.Layout.{mostProcesses, mostCapacity, recordWidth}
 use Rattle.words.specs.WellFormed.{inRange}
 use Rattle.words.proofs.Ranges.{range-in, range-out}
 
--- the tests that the code makes of a limit
 module _ (most n : ℕ) where
   pub none-out : n ≡ 0 → inRange most n ≡ false
   none-out h = range-out most n (λ w. omega (arith, w .0))
@@ -18,8 +15,3 @@ module _ (most n : ℕ) where
 
   pub in-range : (n ≡ 0 → ⊥) → n ≤ most → inRange most n ≡ true
   in-range some h = range-in most n (omega (arith, some), h)
-
--- n records of w words are not many
-pub records-small : (n w c : ℕ) → n ≤ mostProcesses → c ≤ mostCapacity → w ≡ recordWidth c →
-    n * w ≤ mostProcesses * recordWidth mostCapacity
-records-small n w c hn hc e = omega (arith, mul-le-mul-right {m = n} {n = mostProcesses} w hn)

@@ -1,10 +1,8 @@
--- Words that stand w apart, from a on: where each is, and when they are a list's or a table's identities.
--- Assumes nothing.
-use Prim.Native.Nat.{ℕ, suc, _+_, _*_, _<_, _≤_}
+-- Words that stand w apart, from a on, where they are a list's or a table's identities. Assumes nothing.
+use Prim.Native.Nat.{ℕ, _+_, _*_}
 use mathlib.Core.Path.{_≡_, ap, fun-ext}
 use mathlib.Core.List.{List}
-use native.Mathlib.Nat.{suc-mul, mul-one, mul-le-mul-right}
-use native.Mathlib.Numerals.{add-one}
+use native.Mathlib.Nat.{mul-one}
 use native.Mathlib.Omega.{arith}
 use lib.ListN.{getD}
 use Rattle.ring.specs.Identities.{identOf}
@@ -12,14 +10,6 @@ use Rattle.words.specs.Layout.{tableHead, identPlace, recordWidth}
 use Rattle.words.specs.Table.{capacityOf}
 use Rattle.words.specs.WellFormed.{identAt}
 use Rattle.shape.specs.Inside.{spaced}
-
--- one more is w on, and an earlier one ends before a later one begins
-module _ (a w k : ℕ) where
-  pub next-space : (b : ℕ) → b ≡ a + k * w → b + w ≡ a + (k + 1) * w
-  next-space b e = rw (add-one k) (omega (arith, suc-mul k w))
-
-  pub space-before : (i : ℕ) → k < i → k * w + w ≤ i * w
-  space-before i h = omega (arith, mul-le-mul-right {m = suc k} {n = i} w h, suc-mul k w)
 
 -- a list's identities stand one word apart
 pub list-spaced : (ids : List ℕ) → spaced ids 0 1 ≡ identOf ids

@@ -1,9 +1,8 @@
 -- How the start of a ring that is asked for is answered. Assumes nothing.
 use Prim.Native.Nat.{ℕ, _≤_, _<_}
-use mathlib.Core.Path.{_≡_}
+use mathlib.Core.Path.{_≡_, refl}
 use mathlib.Core.List.{List}
 use native.Mathlib.Decide.{decLt}
-use native.Mathlib.Nat.{mul-le-mul}
 use native.Mathlib.Omega.{arith}
 use lib.ListN.{length, length-replicate}
 use Rattle.refusal.specs.declared.Refusal.{Refusal}
@@ -14,6 +13,7 @@ use Rattle.ring.specs.Identities.{Distinct, firstRepeat}
 use Rattle.ring.proofs.Identity.{unrepeated-distinct, distinct-unrepeated}
 use Rattle.words.specs.Layout.{mostProcesses, mostCapacity, recordWidth, tableLength}
 use Rattle.words.specs.Outcomes.{startOf}
+use Rattle.words.proofs.Spaces.{records-most}
 use Rattle.words.proofs.Blocks.{length-firsts}
 use Rattle.words.proofs.Ranges.{Within, Sized}
 use Rattle.words.proofs.ToldFor.{start-repeated, start-done}
@@ -26,8 +26,7 @@ use Rattle.trial.proofs.Asking.{asked-ring}
 -- there is room for every table that a start may lay
 blank-long : (n c : ℕ) → Sized n c → tableLength n c ≤ length blank
 blank-long n c z =
-    let w = recordWidth c in
-    let most = mul-le-mul {n₁ = n} {m₁ = w} {m₂ = recordWidth mostCapacity} (z .few) (omega (arith, z .small)) in
+    let most = records-most n mostProcesses (recordWidth c) c mostCapacity (z .few) (z .small) refl in
     rw (length-replicate {A = ℕ} (tableLength mostProcesses mostCapacity) 0) (omega (arith, most))
 
 -- an input that asks for a ring of n at capacity c

@@ -2,8 +2,7 @@
 use Prim.Native.Nat.{ℕ, suc, _+_, _-_, _*_, _<_, _≤_}
 use mathlib.Core.Path.{_≡_, refl, sym, ap, _∙_}
 use mathlib.Core.List.{List, [], _++_}
-use native.Mathlib.Nat.{suc-mul, mul-le-mul-right, add-sub-cancel-left}
-use native.Mathlib.Numerals.{add-one}
+use native.Mathlib.Nat.{add-sub-cancel-left}
 use native.Mathlib.Omega.{arith}
 use lib.ListN.{length, take, drop, length-append, length-drop}
 use lib.Seq.{drop-at, length-take-le}
@@ -12,7 +11,7 @@ use Rattle.gateway.specs.declared.Msg.{Msg}
 use Rattle.ring.specs.Ring.{Ring, queueOf}
 use Rattle.ring.specs.Gateways.{starting, procAt}
 use Rattle.ring.proofs.Good.{Good}
-use Rattle.words.specs.Layout.{recordWidth, recordPlace, tableLength}
+use Rattle.words.specs.Layout.{tableHead, recordWidth, recordPlace, tableLength}
 use Rattle.words.specs.Table.{
   recordWords,
   blocks,
@@ -26,13 +25,13 @@ use Rattle.words.specs.Table.{
   firsts,
   ringOf,
 }
+use Rattle.words.proofs.Spaces.{next-space, space-before}
 use Rattle.words.proofs.Blocks.{length-blocks, block-at, firsts-list}
 use Rattle.words.proofs.Records.{length-record, read-proc, read-queue}
 
 -- a record ends within the table
 pub record-inside : (c j n : ℕ) → j < n → recordPlace c j + recordWidth c ≤ tableLength n c
-record-inside c j n h =
-    omega (arith, mul-le-mul-right {m = suc j} {n = n} (recordWidth c) h, suc-mul j (recordWidth c))
+record-inside c j n h = omega (arith, space-before tableHead (recordWidth c) j n h)
 
 -- a record that lies within a slice is whole
 pub record-length : (t : List ℕ) (c j : ℕ) → recordPlace c j + recordWidth c ≤ length t →
@@ -43,7 +42,7 @@ record-length t c j h = length-take-le (recordWidth c) (drop (recordPlace c j) t
 module _ (c j a w : ℕ) (at : a ≡ recordPlace c j) (wide : w ≡ recordWidth c) where
   -- behind it the next one begins
   pub next-place : a + w ≡ recordPlace c (j + 1)
-  next-place = rw (add-one j) (omega (arith, suc-mul j (recordWidth c)))
+  next-place = rw wide (next-space tableHead (recordWidth c) j a at)
 
   -- the part from a to a + w is that record
   pub record-part : (t : List ℕ) → take (a + w - a) (drop a t) ≡ recordAt t c j

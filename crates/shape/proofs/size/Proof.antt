@@ -2,7 +2,8 @@
 use native.Mathlib.Omega.{arith}
 use borrow.Author.Needs.{needs}
 use Rattle.words.specs.Layout.{mostProcesses, mostCapacity}
-use Rattle.shape.proofs.Sizes.{none-out, over-out, in-range, records-small}
+use Rattle.words.proofs.Spaces.{records-most}
+use Rattle.shape.proofs.Sizes.{none-out, over-out, in-range}
 use Rattle.shape.proofs.size.Statement.{statement}
 use Rattle.shape.proofs.size.Tie as tie
 
@@ -30,7 +31,8 @@ add-t10 : tie.Need-add-t10
 add-t10 c =
     omega (
       arith,
-      records-small _ _ _ (c .before .before .before .if2 .left) (c .before .if4 .left) (c .width .ensures),
+      records-most _ mostProcesses _ _ mostCapacity (c .before .before .before .if2 .left) (c .before .if4 .left)
+          (c .width .ensures),
     )
 
 returns-5 : tie.Need-returns-5

@@ -5,7 +5,8 @@ use native.Mathlib.Omega.{arith}
 use borrow.Author.Needs.{needs}
 use lib.ListN.{length, getD}
 use Rattle.words.specs.Layout.{capacityPlace, tableHead, statePlace, recordWidth}
-use Rattle.report.proofs.Tracing.{place-small, state-past}
+use Rattle.words.proofs.Spaces.{records-most}
+use Rattle.report.proofs.Tracing.{state-past}
 use Rattle.report.proofs.run.state_at.Statement.{statement}
 use Rattle.report.proofs.run.state_at.Tie as tie
 use Rattle.report.proofs.run.state_at.Reads as reads
@@ -22,7 +23,7 @@ small : (c : lts.After-width (width.Asked, width.Learnt) reads.Pre reads.Post) �
     c .before .before .before .before .args .j * c .width .result ≤ 255 * recordWidth (2 ^ 32)
 small c =
     let start = c .before .before .before .before in
-    place-small (start .args .j) (getD (start .args .table .now) capacityPlace 0) (c .width .result)
+    records-most (start .args .j) 255 (c .width .result) (getD (start .args .table .now) capacityPlace 0) (2 ^ 32)
     (omega (arith, start .fits .j))
     (omega (arith, c .before .shared-slice-known2 .given capacityPlace .fits))
     (c .width .ensures)

@@ -9,7 +9,7 @@ use lib.Dec.{eqb}
 use Rattle.ring.specs.Scan.{allBelow}
 use Rattle.ring.proofs.Scans.{all-more, all-fails}
 use Rattle.shape.specs.Inside.{spaced}
-use Rattle.shape.proofs.Spaces.{next-space, space-before}
+use Rattle.words.proofs.Spaces.{next-space, space-before}
 use Rattle.shape.proofs.identities.fresh.Statement.{statement}
 use Rattle.shape.proofs.identities.fresh.Tie as tie
 
