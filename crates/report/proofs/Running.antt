@@ -9,7 +9,7 @@ use Rattle.words.specs.declared.Leading.{Leading}
 use Rattle.words.specs.declared.Ran.{Ran}
 use Rattle.words.specs.declared.Ran.the-variants as Ran
 use Rattle.words.specs.Outcomes.{runOf, leadsOf}
-use Rattle.words.proofs.Ended.{run-counts}
+use Rattle.table.proofs.Entries.{ran-counts}
 use Rattle.trial.specs.Trace.{traceOf}
 use Rattle.trial.specs.Text.{refusedLine, stepLines, endLine}
 use Rattle.trial.specs.Report.{runText}
@@ -25,7 +25,7 @@ module _ (t schedule : List ℕ) (b : ℕ) (a : Ran) (t′ : List ℕ) (came : (
   module _ (e k s : ℕ) (ended : a ≡ Ran.Ended e k s) where
     -- no more bytes were used than there are
     pub used : k + s ≤ length schedule
-    used = run-counts t schedule b e k s t′ (known (Ran.Ended e k s) ended)
+    used = ran-counts t schedule b e k s t′ (known (Ran.Ended e k s) ended)
 
     pub used-long : length (take (k + s) schedule) ≡ k + s
     used-long = length-take-le (k + s) schedule used

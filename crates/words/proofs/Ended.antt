@@ -1,6 +1,6 @@
 -- What a step that is done, and a run that ended, tell. Assumes nothing.
 use Prim.Native.Nat.{ℕ, _+_, _≤_}
-use mathlib.Core.Path.{_≡_, refl, ap, _∙_}
+use mathlib.Core.Path.{_≡_, refl, ap}
 use mathlib.Core.Bool.{Bool, true, false, true≢false, cond}
 use mathlib.Core.List.{List}
 use native.Mathlib.Omega.{arith}
@@ -80,22 +80,26 @@ module _ (t : List ℕ) (e k s : ℕ) (t′ : List ℕ) (r : Run Proc Msg) (h : 
   ended-words = ap (λ (p : Ran × List ℕ). p .1) h
 
 -- taken never exceeds the budget, and no byte counts twice
-module _ (t schedule : List ℕ) (budget e k s : ℕ) (t′ : List ℕ)
-    (h : (Ran.Ended e k s, t′) ≡ runOf t schedule budget) where
+module _ (t schedule : List ℕ) (budget : ℕ) where
+  abbrev n : ℕ
+  n = countOf t
+
   abbrev r : Run Proc Msg
-  r = running (countOf t) (capacityOf t) schedule (ringOf t) budget 0 0
+  r = running n (capacityOf t) schedule (ringOf t) budget 0 0
 
-  ran-here : (Ran.Ended e k s, t′) ≡ ran t r
-  ran-here = h ∙ run-is t schedule budget (ended-formed t schedule budget e k s t′ h)
+  pub run-within : runTold (runOf t schedule budget .0) .taken ≤ budget
+  unfolding runOf
+  run-within = go (wellFormed t)
+    where
+      go : (b : Bool) → runTold (cond b (ran t r) (Ran.Refused Malformed, t) .0) .taken ≤ budget
+      go true = taken-within gateways n (capacityOf t) (hasLeader n) schedule (ringOf t) budget 0 0 (omega arith)
+      go false = omega arith
 
-  pub run-within : k ≤ budget
-  run-within =
-      let n = countOf t in
-      rw (ended-taken t e k s t′ r ran-here)
-      (taken-within gateways n (capacityOf t) (hasLeader n) schedule (ringOf t) budget 0 0 (omega arith))
-
-  pub run-counts : k + s ≤ length schedule
-  run-counts =
-      let n = countOf t in
-      let counted = counts-within gateways n (capacityOf t) (hasLeader n) schedule (ringOf t) budget 0 0 in
-      rw (ended-taken t e k s t′ r ran-here, ended-skipped t e k s t′ r ran-here) (omega (arith, counted))
+  pub run-counts : let told = runTold (runOf t schedule budget .0) in told .taken + told .skipped ≤ length schedule
+  unfolding runOf
+  run-counts = go (wellFormed t)
+    where
+      go : (b : Bool) → let told = runTold (cond b (ran t r) (Ran.Refused Malformed, t) .0) in
+          told .taken + told .skipped ≤ length schedule
+      go true = omega (arith, counts-within gateways n (capacityOf t) (hasLeader n) schedule (ringOf t) budget 0 0)
+      go false = omega arith
