@@ -1,7 +1,7 @@
 -- Demand 3 of a started ring after any choices, read off the clocks of its course. Assumes nothing.
 use mathlib.Core.Path.{_≡_, ap, sym, _∙_}
 use mathlib.Core.Bool.{true, false}
-use mathlib.Core.List.{List, _++_}
+use mathlib.Core.List.{List}
 use mathlib.Core.Logic.{_≢_}
 use Prim.Native.Nat.{ℕ, _*_, _^_, _≤_, _<_}
 use native.Mathlib.Nat.{mul-le-mul-left}
@@ -15,7 +15,6 @@ use Rattle.ring.specs.Ring.{stays, Ring, refused, queueOf, wants, move, CanMove
 use Rattle.ring.specs.Identities.{identOf, largest}
 use Rattle.ring.specs.Gateways.{gateways, procAt, started, hasLeader}
 use Rattle.ring.specs.Active.{inQueue, inRing, flag, inProc, inMsg, activeIn}
-use Rattle.ring.proofs.Choices.{after-joined}
 use Rattle.ring.proofs.Sums.{sum-same, sum-zero}
 use Rattle.ring.proofs.Reasons.{leads-stays, stays-leads}
 use Rattle.ring.proofs.Leaders.{somebody-leads, nobody-leads}
@@ -127,15 +126,6 @@ module _ (ids : List ℕ) (able : Electable ids) where
       pub ended-same : (more : List ℕ) →
           (after gateways (length ids) c now more ≡ now) × (moves gateways (length ids) c now more ≡ 0)
       ended-same = Clocks.ended-same setting c choices j l over
-
-    -- the same where somebody leads
-    pub announced-moves : hasLeader (length ids) now ≡ true → carriedOut ids c choices ≡ movesToEnd ids
-    announced-moves e = let (j, l, h) = somebody-leads (length ids) now e in moves-exactly j l h
-
-    pub stays-so : hasLeader (length ids) now ≡ true → (more : List ℕ) → reached ids c (choices ++ more) ≡ now
-    stays-so e more =
-        let (j, l, h) = somebody-leads (length ids) now e in
-        after-joined gateways (length ids) c choices more (started ids) ∙ ended-same j l h more .0
 
     pub one-leads : (j k : ℕ) → j < length ids → k < length ids → procAt now j .state ≡ Leads →
         procAt now k .state ≡ Leads → j ≡ k

@@ -1,7 +1,7 @@
 -- Demand 3, to be read aloud: for every list of at least one identity, pairwise different, every capacity and every
 -- list of choices, refused ones included. 1 to 6 are of the ring that a start makes, 7 is of the words of a slice.
 -- No upper limit is asked, and a capacity of at least 1 only where it is named. Assumes nothing.
-use mathlib.Core.Path.{_≡_, ap}
+use mathlib.Core.Path.{_≡_, ap, _∙_}
 use mathlib.Core.Bool.{true, false}
 use mathlib.Core.List.{List, _++_}
 use mathlib.Core.Logic.{_≢_}
@@ -16,6 +16,8 @@ use Rattle.ring.specs.Ring.{Ring, refused, move, CanMove}
 use Rattle.ring.specs.Identities.{largest}
 use Rattle.ring.specs.Gateways.{gateways, procAt, started, hasLeader}
 use Rattle.ring.specs.Active.{activeIn}
+use Rattle.ring.proofs.Choices.{after-joined}
+use Rattle.ring.proofs.Leaders.{somebody-leads}
 use Rattle.words.specs.declared.Leading.the-variants.{Leader, Nobody}
 use Rattle.words.specs.Table.{tableWords, ringOf}
 use Rattle.words.specs.WellFormed.{wellFormed}
@@ -65,7 +67,8 @@ module _ (ids : List ℕ) (able : Electable ids) (c : ℕ) (choices : List ℕ) 
 
   -- at the announcement they are exactly 4 × n × R + 2 × n + 1, R the rounds;
   pub moves-exactly : hasLeader (length ids) now ≡ true → carriedOut ids c choices ≡ movesToEnd ids
-  moves-exactly = Elections.announced-moves ids able c choices
+  moves-exactly e =
+      let (j, l, h) = somebody-leads (length ids) now e in Elections.moves-exactly ids able c choices j l h
 
   -- and 2 ^ R is at most n.
   pub rounds-few : 2 ^ rounds ids ≤ length ids
@@ -78,7 +81,10 @@ module _ (ids : List ℕ) (able : Electable ids) (c : ℕ) (choices : List ℕ) 
 
   -- once one is there more choices change nothing, so that it stays the only one;
   pub stays-so : hasLeader (length ids) now ≡ true → (more : List ℕ) → reached ids c (choices ++ more) ≡ now
-  stays-so = Elections.stays-so ids able c choices
+  stays-so e more =
+      let (j, l, h) = somebody-leads (length ids) now e in
+      after-joined gateways (length ids) c choices more (started ids)
+      ∙ Elections.ended-same ids able c choices j l h more .0
 
   -- at most one announcing move is made;
   pub announced-once : announcements gateways (length ids) c (started ids) choices ≤ 1

@@ -9,10 +9,6 @@ use lib.ListN.{length, getD, length-append, List·getD-append}
 use borrow.Author.Tests.{ne-eqb}
 use Rattle.trial.specs.Text.{digit, digitsIn, decimal}
 
--- a tenth of a number that is not 0 is less
-tenth-less : (n : ℕ) → 0 < n → n / 10 < n
-tenth-less n some = omega (arith, div-add-mod n 10)
-
 -- the digits of n, and none of 0
 abbrev pub digitsOf : ℕ → List ℕ
 digitsOf n = digitsIn n n
@@ -41,8 +37,7 @@ bound-same (suc f) (suc g) zero a b = none-of-zero (suc f) ∙ sym (none-of-zero
 bound-same (suc f) (suc g) (suc n) a b =
     one-more-in f (suc n) (omega arith)
     ∙ ap (λ (l : List ℕ). l ++ (digit (suc n % 10) ∷ []))
-    (bound-same f g (suc n / 10) (omega (arith, a, tenth-less (suc n) (omega arith)))
-    (omega (arith, b, tenth-less (suc n) (omega arith))))
+    (bound-same f g (suc n / 10) (omega (arith, a)) (omega (arith, b)))
     ∙ sym (one-more-in g (suc n) (omega arith))
 bound-same zero g (suc n) a b = absurd (omega (arith, a))
 bound-same (suc f) zero (suc n) a b = absurd (omega (arith, b))
@@ -55,7 +50,7 @@ digits-more zero some = absurd (omega (arith, some))
 digits-more (suc n) some =
     one-more-in n (suc n) some
     ∙ ap (λ (l : List ℕ). l ++ (digit (suc n % 10) ∷ []))
-    (bound-same n (suc n / 10) (suc n / 10) (omega (arith, tenth-less (suc n) some)) (omega arith))
+    (bound-same n (suc n / 10) (suc n / 10) (omega arith) (omega arith))
 
 pub decimal-is : (n : ℕ) → decimal n ≡ digitsOf (n / 10) ++ (digit (n % 10) ∷ [])
 decimal-is n =
@@ -103,11 +98,10 @@ said-back (suc f) n few = go (said-back f (n / 10)) (ℕ-discrete n 0)
     go : (n / 10 ≤ f → said 0 (digitsIn f (n / 10)) ≡ n / 10) → Dec (n ≡ 0) → said 0 (digitsIn (suc f) n) ≡ n
     go back (yes e) = rw (e, none-of-zero (suc f))
     go back (no some) =
-        let less = tenth-less n (omega (arith, some)) in
         rw (
           one-more-in f n (omega (arith, some)),
           said-last 0 (digitsIn f (n / 10)) (n % 10),
-          back (omega (arith, less, few)),
+          back (omega (arith, some, few)),
         )
         (omega (arith, div-add-mod n 10))
 
@@ -129,7 +123,7 @@ digits-begun : (f n : ℕ) → n ≤ f → 0 < n → Begun (digitsIn f n)
 digits-begun zero n few some = absurd (omega (arith, few, some))
 digits-begun (suc f) n few some =
     rw (one-more-in f n some)
-    (go (λ more. digits-begun f (n / 10) (omega (arith, few, tenth-less n some)) more) (ℕ-discrete (n / 10) 0))
+    (go (λ more. digits-begun f (n / 10) (omega (arith, few, some)) more) (ℕ-discrete (n / 10) 0))
   where
     go : (0 < n / 10 → Begun (digitsIn f (n / 10))) → Dec (n / 10 ≡ 0) →
         Begun (digitsIn f (n / 10) ++ (digit (n % 10) ∷ []))
