@@ -3,6 +3,8 @@ use Prim.Native.Nat.{ℕ, zero, suc, _-_, _<_, _≤_}
 use mathlib.Core.Path.{_≡_, refl, sym, ap, _∙_}
 use mathlib.Core.Bool.{true, false}
 use mathlib.Core.List.{List, [], _∷_, _++_}
+use mathlib.Core.Logic.{if-pos, if-neg}
+use native.Mathlib.Decide.{decLt}
 use native.Mathlib.Omega.{arith}
 use lib.ListN.{length, getD, set, length-set}
 use lib.Seq.{getD-set-same}
@@ -17,7 +19,6 @@ use Rattle.gateway.specs.declared.Took.{Took}
 use Rattle.gateway.specs.declared.Took.the-variants.{Becomes, Wrong}
 use Rattle.gateway.specs.Row.{inState, row, took}
 use Rattle.gateway.proofs.Changes.{isLeading, Turned, took-changes, puts-changes, announces-changes}
-use Rattle.rows.proofs.Tests.{ite-lt, ite-le}
 use Rattle.ring.specs.Ring.{Ring, puts, announces, prev, queueOf, becoming, putting, taking}
 use Rattle.ring.specs.Gateways.{gateways, starting, procAt, wanted}
 use Rattle.ring.proofs.Moves.{move-in, move-out}
@@ -150,14 +151,14 @@ module _ (t : List ℕ) (n c : ℕ) (f : Formed t n c) where
           let room-t : length (queueOf R j) < capacityOf t = rw (f .capacity) at room-c in
           let words : last ≡ tableWords n c (putting R j m p) ++ restOf t =
           e ∙ put-is t n c R (restOf t) laid j (below-n j below) m s room-c in
-          rw (ite-lt room-t _ _, there p, quiet, rewrites (putting R j m p) last words)
+          rw (if-pos (decLt _ _) room-t _ _, there p, quiet, rewrites (putting R j m p) last words)
 
       pub put-full : c ≤ lengthOf (recordAt t c j) →
           (numbered (Full j) .number, t) ≡ coded t j (served t j (puts m p))
       put-full full =
           let full-c : c ≤ length (queueOf (ringOf t) j) = rw length-is at full in
           let full-t : capacityOf t ≤ length (queueOf (ringOf t) j) = rw (f .capacity) at full-c in
-          rw (ite-le full-t _ _)
+          rw (if-neg (decLt (length (queueOf (ringOf t) j)) (capacityOf t)) (λ room. omega arith) _ _)
 
   -- the row that takes, from i --
 
