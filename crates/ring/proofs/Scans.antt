@@ -40,7 +40,7 @@ module _ (P : ℕ → Bool) where
 
 -- where not all pass, some index fails
 pub some-fails : (P : ℕ → Bool) (n : ℕ) → allBelow n P ≡ false → (i : ℕ) × (i < n) × (P i ≡ false)
-some-fails P zero e = let z : _≡_ {A = Bool} true false = e in absurd (true≢false z)
+some-fails P zero e = absurd (true≢false e)
 some-fails P (suc n) e = go (some-fails P n) (allBelow n P) refl e
   where
     go : (allBelow n P ≡ false → (i : ℕ) × (i < n) × (P i ≡ false)) → (b : Bool) → allBelow n P ≡ b →

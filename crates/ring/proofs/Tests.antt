@@ -1,14 +1,12 @@
 -- Tests that compute: both of two, and a choice by one. Assumes nothing.
-use mathlib.Core.Path.{_≡_, refl}
-use mathlib.Core.Bool.{Bool, true, false, _&&_, cond}
+use mathlib.Core.Path.{_≡_}
+use mathlib.Core.Bool.{Bool, true, false, _&&_, cond, and-eq-true-iff}
 
 pub and-left : (a b : Bool) → (a && b) ≡ true → a ≡ true
-and-left true b e = refl
-and-left false b e = e
+and-left a b e = and-eq-true-iff a b .0 e .0
 
 pub and-right : (a b : Bool) → (a && b) ≡ true → b ≡ true
-and-right true b e = e
-and-right false b e = let z : _≡_ {A = Bool} false true = e in cc
+and-right a b e = and-eq-true-iff a b .0 e .1
 
 -- what both have, the one chosen has
 pub either : {A : Type 0} (I : A → Type 0) (b : Bool) (x y : A) → I x → I y → I (cond b x y)
