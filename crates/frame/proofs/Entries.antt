@@ -14,6 +14,7 @@ use Rattle.refusal.specs.declared.Answer.{Answer}
 use Rattle.refusal.specs.declared.Answer.the-variants.{Done}
 use Rattle.refusal.specs.declared.Told.{Told}
 use Rattle.refusal.specs.Numbered.{told}
+use Rattle.refusal.proofs.Outcomes.{outcome-left}
 use Rattle.wire.specs.declared.Reading.{Reading}
 use Rattle.wire.specs.declared.Reading.the-variants.{Message}
 use Rattle.wire.specs.declared.ReadTold.{ReadTold}
@@ -51,7 +52,7 @@ accepted-then-written s r m b q e =
 pub refused-then-same : (out left : List ℕ) (g n v : ℕ) (a : Answer) (r : Refusal) →
     (a, left) ≡ writeOf out g n v → a ≡ Answer.Refused r → left ≡ out
 refused-then-same out left g n v a r w e =
-    ap (λ x. x .1) w ∙ refusal-writes-nothing out g n v r (sym (ap (λ x. x .0) w) ∙ e)
+    outcome-left (λ a. a ≡ Answer.Refused r) w e (refusal-writes-nothing out g n v r)
 
 -- each refusal number is told exactly when document 01 says, and so is the place
 pub read-then-told : (s : List ℕ) (r : Reading) (t : ReadTold) → r ≡ readOf s → t ≡ readTold r → Reads s t

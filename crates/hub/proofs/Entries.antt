@@ -17,6 +17,7 @@ use Rattle.refusal.specs.declared.Answer.the-variants.{Done, Refused}
 use Rattle.refusal.specs.declared.Told.{Told}
 use Rattle.refusal.specs.Numbered.{numbered, told}
 use Rattle.refusal.proofs.Apart.{told-apart, zero-done, numbered-never-zero}
+use Rattle.refusal.proofs.Outcomes.{outcome-left}
 use Rattle.words.specs.declared.Ran.{Ran}
 use Rattle.words.specs.declared.Ran.the-variants as Ran
 use Rattle.words.specs.declared.Leading.{Leading}
@@ -53,8 +54,7 @@ use Rattle.wire.proofs.Promises.{refusal-writes-nothing, each-generation-writte
 use Rattle.wire.proofs.GivenWhen.{Reads, Writes, read-exactly, write-exactly}
 use Rattle.hub.specs.declared.ThkRan.{ThkRan}
 use Rattle.hub.specs.declared.ThkLeading.{ThkLeading}
-use Rattle.hub.specs.Edge.{toldOf, thkRan, ranOf, thkLeading}
-use Rattle.hub.proofs.Telling.{refused-left}
+use Rattle.hub.specs.Edge.{toldOf, ranOf, thkLeading}
 
 -- each number is told exactly when document 01 says, and so is the place --
 
@@ -103,20 +103,20 @@ refusal-of (Refused x) h = (x, refl)
 
 pub refused-start-same : (t ids : List ℕ) (c : ℕ) (r : Told) (t′ : List ℕ) →
     (r, t′) ≡ toldOf (startOf t ids c) → 1 ≤ r .number → t′ ≡ t
-refused-start-same t ids c =
-    refused-left told (λ r. r .number) (startOf t ids c) t
+refused-start-same t ids c r t′ h n =
+    outcome-left (λ (a : Told). 1 ≤ a .number) h n
     (λ n. let (x, e) = refusal-of (startOf t ids c .0) n in start-refused t ids c x e)
 
 pub refused-step-same : (t : List ℕ) (j : ℕ) (r : Told) (t′ : List ℕ) →
     (r, t′) ≡ toldOf (stepOf t j) → 1 ≤ r .number → t′ ≡ t
-refused-step-same t j =
-    refused-left told (λ r. r .number) (stepOf t j) t
+refused-step-same t j r t′ h n =
+    outcome-left (λ (a : Told). 1 ≤ a .number) h n
     (λ n. let (x, e) = refusal-of (stepOf t j .0) n in step-refused t j x e)
 
 pub refused-write-same : (out : List ℕ) (g n v : ℕ) (r : Told) (left : List ℕ) →
     (r, left) ≡ toldOf (writeOf out g n v) → 1 ≤ r .number → left ≡ out
-refused-write-same out g n v =
-    refused-left told (λ r. r .number) (writeOf out g n v) out
+refused-write-same out g n v r left h m =
+    outcome-left (λ (a : Told). 1 ≤ a .number) h m
     (λ m. let (x, e) = refusal-of (writeOf out g n v .0) m in refusal-writes-nothing out g n v x e)
 
 run-refusal-of : (a : Ran) → 1 ≤ runTold a .number → (x : Refusal) × (a ≡ Ran.Refused x)
@@ -125,8 +125,8 @@ run-refusal-of (Ran.Refused x) h = (x, refl)
 
 pub refused-run-same : (t schedule : List ℕ) (budget : ℕ) (r : ThkRan) (t′ : List ℕ) →
     (r, t′) ≡ ranOf (runOf t schedule budget) → 1 ≤ r .number → t′ ≡ t
-refused-run-same t schedule budget =
-    refused-left thkRan (λ r. r .number) (runOf t schedule budget) t
+refused-run-same t schedule budget r t′ h n =
+    outcome-left (λ (a : ThkRan). 1 ≤ a .number) h n
     (λ n. let (x, e) = run-refusal-of (runOf t schedule budget .0) n in run-refused t schedule budget x e)
 
 -- no answer is lost in the numbers --

@@ -9,6 +9,7 @@ use lib.Seq.{length-take-le, take-at}
 use Rattle.refusal.specs.declared.Refusal.{Refusal}
 use Rattle.refusal.specs.declared.Answer.{Answer}
 use Rattle.refusal.specs.declared.Answer.the-variants.{Done, Refused}
+use Rattle.refusal.proofs.Outcomes.{outcome-known}
 use Rattle.words.specs.Outcomes.{startOf, runOf}
 use Rattle.words.proofs.Blocks.{length-firsts}
 use Rattle.trial.specs.Input.{mostSchedule, identityAt, valueIn, framesFrom, identitiesIn, scheduleIn}
@@ -42,9 +43,7 @@ module _ (n : ℕ) (s zeros l : List ℕ) (few : n ≤ length zeros) (got : l �
   module _ (c : ℕ) (a : Answer) (t : List ℕ) (came : (a, t) ≡ startOf blank (take n (l ++ drop n zeros)) c) where
     known : (x : Answer) → a ≡ x → (x, t) ≡ startOf blank (identitiesIn n s) c
     known x e =
-        sym (ap (λ (y : Answer). (y, t)) e)
-        ∙ came
-        ∙ ap (λ (ids : List ℕ). startOf blank ids c) (filled ∙ identities)
+        outcome-known came e ∙ ap (λ (ids : List ℕ). startOf blank ids c) (filled ∙ identities)
 
     pub refused-start : (x : Refusal) → a ≡ Refused x → refusedLine x ≡ ringText n c s
     refused-start x e =

@@ -11,6 +11,7 @@ use Rattle.refusal.specs.declared.Answer.{Answer}
 use Rattle.refusal.specs.declared.Answer.the-variants.{Done, Refused}
 use Rattle.refusal.specs.declared.Told.{Told}
 use Rattle.refusal.specs.Numbered.{told}
+use Rattle.refusal.proofs.Outcomes.{outcome-left}
 use Rattle.gateway.specs.declared.Proc.{Proc}
 use Rattle.gateway.specs.declared.Msg.{Msg}
 use Rattle.ring.specs.Ring.{Ring, made, move}
@@ -66,17 +67,16 @@ use Rattle.words.proofs.GivenWhen.{
 
 pub refused-start-same : (t ids : List ℕ) (c : ℕ) (a : Answer) (t′ : List ℕ) (x : Refusal) →
     (a, t′) ≡ startOf t ids c → a ≡ Refused x → t′ ≡ t
-refused-start-same t ids c a t′ x h e =
-    ap (λ p. p .1) h ∙ start-refused t ids c x (sym (ap (λ p. p .0) h) ∙ e)
+refused-start-same t ids c a t′ x h e = outcome-left (λ a. a ≡ Refused x) h e (start-refused t ids c x)
 
 pub refused-step-same : (t : List ℕ) (j : ℕ) (a : Answer) (t′ : List ℕ) (x : Refusal) →
     (a, t′) ≡ stepOf t j → a ≡ Refused x → t′ ≡ t
-refused-step-same t j a t′ x h e = ap (λ p. p .1) h ∙ step-refused t j x (sym (ap (λ p. p .0) h) ∙ e)
+refused-step-same t j a t′ x h e = outcome-left (λ a. a ≡ Refused x) h e (step-refused t j x)
 
 pub refused-run-same : (t schedule : List ℕ) (budget : ℕ) (a : Ran) (t′ : List ℕ) (x : Refusal) →
     (a, t′) ≡ runOf t schedule budget → a ≡ Ran.Refused x → t′ ≡ t
 refused-run-same t schedule budget a t′ x h e =
-    ap (λ p. p .1) h ∙ run-refused t schedule budget x (sym (ap (λ p. p .0) h) ∙ e)
+    outcome-left (λ a. a ≡ Ran.Refused x) h e (run-refused t schedule budget x)
 
 -- what was lent beyond the table is neither read nor written --
 

@@ -1,11 +1,11 @@
 -- `report::run::steps` puts a line for each step that the choices take. Assumes nothing.
 use Prim.Native.Nat.{_-_}
-use mathlib.Core.Path.{_≡_, refl, sym, ap, _∙_}
+use mathlib.Core.Path.{_≡_, refl, _∙_}
 use mathlib.Core.Logic.{⊎-elim}
 use native.Mathlib.Omega.{arith}
 use borrow.Author.Needs.{needs}
 use lib.ListN.{length}
-use Rattle.refusal.specs.declared.Answer.{Answer}
+use Rattle.refusal.proofs.Outcomes.{outcome-known}
 use Rattle.report.proofs.Tracing.{Going, going-first, gone, gone-short, stayed, step-room, went}
 use Rattle.report.proofs.run.steps.Statement.{statement}
 use Rattle.report.proofs.run.steps.Tie as tie
@@ -54,11 +54,11 @@ loop-again c =
       ⊎-elim
           (λ w. rw (w .8, w .9, w .10)
           (went _ _ _ _ _ _ _ _ g more t′ (start .pre .1)
-          (sym (ap (λ (y : Answer). (y, t′)) (w .1 .given .1)) ∙ x .ensures)
+          (outcome-known (x .ensures) (w .1 .given .1))
           (was .result) (w .3 .result) (was .ensures) (w .3 .ensures)
           (w .5 .result) (w .5 .last .0) (w .5 .ensures .0) (w .5 .ensures .1) (w .5 .kept .0)))
           (λ w. rw (w .2, w .3, w .4)
-          (stayed _ _ _ _ _ _ _ _ g more t′ _ (sym (ap (λ (y : Answer). (y, t′)) (w .1 .given .1)) ∙ x .ensures)))
+          (stayed _ _ _ _ _ _ _ _ g more t′ _ (outcome-known (x .ensures) (w .1 .given .1))))
           (c .match .came),
       x .kept .0 ∙ c9 .loop .inv .1,
     )
