@@ -6,11 +6,11 @@ use native.Mathlib.Nat.{suc-mul, zero-mul, add-sub-cancel-left}
 use native.Mathlib.Numerals.{add-one}
 use native.Mathlib.Omega.{arith}
 use borrow.Rule.Slice.PartMut.{midOf, putMid}
-use lib.ListN.{length, getD, set, length-replicate, replicate-append-replicate, List·getD-map}
+use lib.ListN.{length, getD, set, length-replicate, replicate-append-replicate}
 use lib.Seq.{take-at, drop-at}
-use Rattle.gateway.specs.declared.Msg.{Msg}
 use Rattle.ring.specs.Ring.{queueOf}
 use Rattle.ring.specs.Gateways.{starting, procAt, started}
+use Rattle.ring.proofs.Started.{started-proc, started-queue}
 use Rattle.words.specs.Layout.{countPlace, capacityPlace, recordWidth, recordPlace, tableLength}
 use Rattle.words.specs.Table.{slotWords, recordWords, blocks, tableWords}
 use Rattle.words.proofs.Blocks.{length-blocks, blocks-same, blocks-more}
@@ -110,8 +110,7 @@ module _ (ids : List ℕ) (c : ℕ) where
 
   -- a laid record is that of the started ring
   record-started : (j : ℕ) → laidRecord j ≡ recordWords c (procAt (started ids) j) (queueOf (started ids) j)
-  unfolding started
-  record-started j = rw (List·getD-map starting ids j 0, List·getD-map {B = List Msg} (λ i. []) ids j 0)
+  record-started j = rw (started-proc ids j, started-queue ids j)
 
   -- all records laid
   pub laid-all : laid (length ids) ≡ tableWords (length ids) c (started ids)

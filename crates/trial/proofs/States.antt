@@ -4,16 +4,16 @@ use mathlib.Core.Path.{_≡_, refl, sym, ap, subst, _∙_}
 use mathlib.Core.Bool.{true}
 use mathlib.Core.List.{List}
 use native.Mathlib.Omega.{arith}
-use lib.ListN.{getD, drop}
-use lib.Seq.{getD-take, getD-drop}
+use lib.ListN.{getD}
 use Rattle.refusal.specs.declared.Answer.the-variants.{Done}
 use Rattle.gateway.specs.Numbers.{stateNumber}
 use Rattle.ring.specs.Gateways.{gateways, procAt}
 use Rattle.ring.proofs.Moves.{made-is}
-use Rattle.words.specs.Layout.{statePlace, recordWidth, recordPlace}
+use Rattle.words.specs.Layout.{statePlace}
 use Rattle.words.specs.Table.{recordWords, countOf, capacityOf, ringOf}
 use Rattle.words.specs.WellFormed.{wellFormed}
 use Rattle.words.specs.Outcomes.{stepOf}
+use Rattle.words.proofs.Tables.{record-word}
 use Rattle.words.proofs.Sound.{record-words}
 use Rattle.words.proofs.Beside.{Beside, move-beside}
 use Rattle.words.proofs.Ended.{step-done}
@@ -24,8 +24,7 @@ pub word-is-state : (t : List ℕ) → wellFormed t ≡ true → (j : ℕ) → j
     stateWord t j ≡ stateNumber (procAt (ringOf t) j .state)
 unfolding recordWords
 word-is-state t ok j below =
-    let p = recordPlace (capacityOf t) j in
-    sym (getD-take (recordWidth (capacityOf t)) (drop p t) statePlace 0 (omega arith) ∙ getD-drop p t statePlace 0)
+    sym (record-word t (capacityOf t) j statePlace (omega arith))
     ∙ ap (λ (r : List ℕ). getD r statePlace 0) (sym (record-words t ok j below))
 
 -- a step of process j from the table t to the table t′ shows this

@@ -6,7 +6,6 @@ use mathlib.Core.List.{List, [], _∷_}
 use native.Mathlib.Omega.{arith}
 use borrow.Author.Tests.{leb-true}
 use lib.ListN.{length, take, drop}
-use lib.Seq.{getD-take, getD-drop}
 use Rattle.gateway.specs.declared.Proc.{Proc}
 use Rattle.gateway.specs.declared.Msg.{Msg}
 use Rattle.ring.specs.Ring.{Ring, queueOf}
@@ -16,7 +15,7 @@ use Rattle.ring.proofs.Tests.{and-left, and-right}
 use Rattle.ring.proofs.Scans.{all-at}
 use Rattle.ring.proofs.Good.{Good}
 use Rattle.ring.proofs.Identity.{same-distinct, fresh-distinct}
-use Rattle.words.specs.Layout.{recordHead, recordWidth, recordPlace, tableLength}
+use Rattle.words.specs.Layout.{identPlace, recordHead, recordWidth, tableLength}
 use Rattle.words.specs.Table.{
   recordWords,
   tableWords,
@@ -33,7 +32,7 @@ use Rattle.words.specs.Outcomes.{rewritten}
 use Rattle.words.proofs.Ranges.{Sized, both-sized}
 use Rattle.words.proofs.Blocks.{length-firsts, firsts-at, blocks-same, blocks-cut}
 use Rattle.words.proofs.Records.{length-read, length-fits, record-image}
-use Rattle.words.proofs.Tables.{record-inside, record-length, past-head}
+use Rattle.words.proofs.Tables.{record-inside, record-length, record-word, past-head}
 
 -- no two processes of a ring have one identity
 abbrev pub DistinctIn : ℕ → Ring Proc Msg → Type 0
@@ -60,9 +59,7 @@ module _ (t : List ℕ) (j : ℕ) (h : j < countOf t) where
 
 -- the first word of a record is the identity
 pub ident-word : (t : List ℕ) (j : ℕ) → readProc (recordAt t (capacityOf t) j) .ident ≡ identAt t j
-ident-word t j =
-    let p = recordPlace (capacityOf t) j in
-    getD-take (recordWidth (capacityOf t)) (drop p t) 0 0 (omega arith) ∙ getD-drop p t 0 0
+ident-word t j = record-word t (capacityOf t) j identPlace (omega arith)
 
 -- what the tests of a well-formed table tell
 module _ (t : List ℕ) (ok : wellFormed t ≡ true) where

@@ -4,8 +4,8 @@ use mathlib.Core.Path.{_≡_, refl, sym, ap, _∙_}
 use mathlib.Core.List.{List, [], _++_}
 use native.Mathlib.Nat.{add-sub-cancel-left}
 use native.Mathlib.Omega.{arith}
-use lib.ListN.{length, take, drop, length-append, length-drop}
-use lib.Seq.{drop-at, length-take-le}
+use lib.ListN.{length, getD, take, drop, length-append, length-drop}
+use lib.Seq.{drop-at, length-take-le, getD-take, getD-drop}
 use Rattle.gateway.specs.declared.Proc.{Proc}
 use Rattle.gateway.specs.declared.Msg.{Msg}
 use Rattle.ring.specs.Ring.{Ring, queueOf}
@@ -37,6 +37,12 @@ record-inside c j n h = omega (arith, space-before tableHead (recordWidth c) j n
 pub record-length : (t : List ℕ) (c j : ℕ) → recordPlace c j + recordWidth c ≤ length t →
     length (recordAt t c j) ≡ recordWidth c
 record-length t c j h = length-take-le (recordWidth c) (drop (recordPlace c j) t) (simp length-drop (omega arith))
+
+-- word k of a record
+pub record-word : (t : List ℕ) (c j k : ℕ) → k < recordWidth c →
+    getD (recordAt t c j) k 0 ≡ getD t (recordPlace c j + k) 0
+record-word t c j k h =
+    let p = recordPlace c j in getD-take (recordWidth c) (drop p t) k 0 h ∙ getD-drop p t k 0
 
 -- a is where record j begins, w is how long it is
 module _ (c j a w : ℕ) (at : a ≡ recordPlace c j) (wide : w ≡ recordWidth c) where
