@@ -46,9 +46,3 @@ pub record Begins {P M : Type 0} (G : Rules P M) (n : ℕ) (H : History P M) (R 
   pub empty : (j : ℕ) → queueOf R j ≡ []
   pub unsent : (j : ℕ) → H .sent j 0 ≡ 0
   pub ungot : (j : ℕ) → H .got j 0 ≡ 0
-
--- a course, and a ring at its beginning
-pub record Setting {P M : Type 0} (G : Rules P M) (n : ℕ) : Type 0 where
-  pub course : Course G n
-  pub start : Ring P M
-  pub begins : Begins G n (course .history) start

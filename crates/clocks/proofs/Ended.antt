@@ -4,11 +4,13 @@ use mathlib.Core.Path.{_≡_, refl, ap, sym, _∙_}
 use mathlib.Core.List.{List, [], _∷_}
 use mathlib.Core.Logic.{_≢_}
 use Prim.Native.Nat.{ℕ, suc, _+_, _*_, _≤_, _<_}
+use native.Mathlib.Nat.{zero-add}
 use native.Mathlib.Decide.{decLt, ℕ-discrete}
 use native.Mathlib.Omega.{arith}
 use lib.ListN.{length, List·getD-eq-default}
 use lib.Seq.{ext-getD}
-use Rattle.ring.specs.Ring.{stays, Ring, made, prev, queueOf, Rules, procOf, wants, move}
+use Rattle.ring.specs.Ring.{stays, Ring, made, prev, queueOf, Rules, procOf, wants, move, after, moves}
+use Rattle.ring.proofs.Choices.{after-keeps}
 use Rattle.ring.proofs.Around.{prev-below, next-of, backward}
 use Rattle.ring.proofs.Sums.{sum-exactly}
 use Rattle.clocks.proofs.Histories.{History}
@@ -87,6 +89,13 @@ module _ {P M : Type 0} {G : Rules P M} {n : ℕ} {C : Course G n} {R : Ring P M
   -- a move more would be one too many
   pub nothing-moves : (c k : ℕ) (R′ : Ring P M) → move G n c R k ≡ made R′ → ⊥
   nothing-moves c k R′ e = omega (arith, moves-exactly, moves-most (next-reached r c k R′ e))
+
+  -- so more choices change nothing, and none of them is carried out
+  pub ended-same : (c : ℕ) (more : List ℕ) → (after G n c R more ≡ R) × (moves G n c R more ≡ 0)
+  ended-same c more =
+      rw zero-add at
+      (after-keeps G n c (λ R′ m. (R′ ≡ R) × (m ≡ 0))
+      (λ R′ m k R″ same e. absurd (nothing-moves c k R″ (rw (same .0) at e))) more R 0 (refl, refl))
 
 -- two rings that are over
 module _ {P M : Type 0} {G : Rules P M} {n : ℕ} {C : Course G n} {R R′ : Ring P M} {m m′ : ℕ}

@@ -23,8 +23,10 @@ use Rattle.ring.proofs.Occurrences.{largest-occurs, each-once}
 use Rattle.ring.proofs.Started.{started-proc, started-queue, started-good}
 use Rattle.rounds.proofs.Last.{Last}
 use Rattle.rounds.proofs.LastRound.{last-round}
-use Rattle.clocks.proofs.Courses.{Setting}
-use Rattle.clocks.proofs.Outcomes as Clocks
+use Rattle.clocks.proofs.Reached.{Reached, after-reached, weight-after}
+use Rattle.clocks.proofs.Flows as Flows
+use Rattle.clocks.proofs.Progress as Progress
+use Rattle.clocks.proofs.Ended as Ended
 use Rattle.election.specs.Deciding.{contest, rounds}
 use Rattle.election.specs.Reaching.{Electable, reached, carriedOut, mostMoves, movesToEnd}
 use Rattle.election.specs.Announcing.{announcements, Announced}
@@ -43,10 +45,6 @@ module _ (ids : List ℕ) (able : Electable ids) where
         among = largest-occurs ids (able .some);
         most = none-larger ids;
       })
-
-  -- the course of the election, from the started ring on
-  abbrev setting : Setting gateways (length ids)
-  setting = record { course = course ids final; start = started ids; begins = begins ids final }
 
   pub rounds-few : 2 ^ rounds ids ≤ length ids
   rounds-few =
@@ -71,24 +69,29 @@ module _ (ids : List ℕ) (able : Electable ids) where
     abbrev now : Ring Proc Msg
     now = reached ids c choices
 
+    -- which the course of the election has reached
+    r : Reached (course ids final) now (carriedOut ids c choices)
+    r = after-reached (course ids final) (begins ids final) c choices
+
     pub largest-once : activeIn (length ids) (largest ids) (reached ids c choices) ≡ 1
     largest-once =
         let x = largest ids in
-        Clocks.weight-kept setting c choices (inProc x) (inMsg x) (active-kept ids final) ∙ started-once
+        weight-after (course ids final) (begins ids final) c choices (inProc x) (inMsg x) (active-kept ids final)
+        ∙ started-once
 
     pub somebody-moves : 1 ≤ c → hasLeader (length ids) now ≡ false → (j : ℕ) × CanMove gateways (length ids) c now j
     somebody-moves roomy none =
-        Clocks.somebody-moves setting c choices roomy
+        Progress.somebody-moves r c roomy
         (λ j l h. nobody-leads (length ids) now none j l (stays-leads now j h))
 
     pub never-nine : (j i : ℕ) → move gateways (length ids) c now j ≢ refused (WrongKind i)
-    never-nine = Clocks.never-wrong setting c choices
+    never-nine = Progress.never-wrong r c
 
     -- four moves a round, and three and two in the last; fewer rounds than processes
     pub moves-most : carriedOut ids c choices ≤ mostMoves (length ids)
     moves-most =
         let n = length ids in
-        let most = rw (course-top ids final) at (Clocks.moves-most setting c choices) in
+        let most = rw (course-top ids final) at (Flows.moves-most r) in
         omega (arith, most, mul-le-mul-left n (final .small), mul-le-mul-left n (able .some))
 
     -- where process j has announced
@@ -100,32 +103,32 @@ module _ (ids : List ℕ) (able : Electable ids) where
       last = course ids final .finish .last
 
       is-last : j ≡ last
-      is-last = Clocks.stays-last setting c choices j l over
+      is-last = Ended.stays-last r j l over
 
       leads-largest : procAt now last .d ≡ largest ids
-      leads-largest = ap (λ (p : Proc). p .d) (Clocks.last-at setting c choices j l over ∙ last-end ids final)
+      leads-largest = ap (λ (p : Proc). p .d) (Ended.last-at r j l over ∙ last-end ids final)
 
       relays : (k : ℕ) → k < length ids → k ≢ last → procAt now k .state ≡ Relays
       relays k lk ne =
-          ap (λ (p : Proc). p .state) (Clocks.other-at setting c choices j l over k lk ne) ∙ other-end ids final k lk ne
+          ap (λ (p : Proc). p .state) (Ended.other-at r j l over k lk ne) ∙ other-end ids final k lk ne
 
       pub announced-then : Announced ids c now j
       announced-then = record {
         value = ap (λ (k : ℕ). procAt now k .d) is-last ∙ leads-largest;
         others = λ k lk ne. relays k lk (λ z. ne (z ∙ sym is-last));
-        empty = λ k lk. Clocks.queues-empty setting c choices j l over k;
-        over = Clocks.nothing-moves setting c choices j l over;
+        empty = λ k lk. Ended.queues-empty r j l over k;
+        over = λ k (R′, e). Ended.nothing-moves r j l over c k R′ e;
       }
 
       pub moves-exactly : carriedOut ids c choices ≡ movesToEnd ids
       moves-exactly =
-          let exact = rw (course-top ids final) at (Clocks.moves-exactly setting c choices j l over) in
+          let exact = rw (course-top ids final) at (Ended.moves-exactly r j l over) in
           rw (final .is-first) (omega (arith, exact))
 
       -- more choices change nothing, and none of them is carried out
       pub ended-same : (more : List ℕ) →
           (after gateways (length ids) c now more ≡ now) × (moves gateways (length ids) c now more ≡ 0)
-      ended-same = Clocks.ended-same setting c choices j l over
+      ended-same = Ended.ended-same r j l over c
 
     pub one-leads : (j k : ℕ) → j < length ids → k < length ids → procAt now j .state ≡ Leads →
         procAt now k .state ≡ Leads → j ≡ k
@@ -147,4 +150,4 @@ module _ (ids : List ℕ) (able : Electable ids) where
       let n = length ids in
       let (j, l, h) = somebody-leads n (reached ids c choices) e in
       let (j′, l′, h′) = somebody-leads n (reached ids c′ choices′) e′ in
-      Clocks.same-end setting c c′ choices choices′ j j′ l l′ (leads-stays _ h) (leads-stays _ h′)
+      Ended.same-end (r c choices) (r c′ choices′) j j′ l l′ (leads-stays _ h) (leads-stays _ h′)
