@@ -7,12 +7,12 @@ use lib.ListN.{replicate}
 use Rattle.refusal.specs.declared.Told.{Told}
 use Rattle.refusal.specs.declared.Answer.{Answer}
 use Rattle.refusal.specs.Numbered.{tell, told}
+use Rattle.wire.specs.Frames.{writeOf}
 use Rattle.ring.specs.Ring.{move}
 use Rattle.ring.specs.Gateways.{started}
 use Rattle.words.specs.Table.{recordWords, tableWords, ringOf}
 use Rattle.words.specs.WellFormed.{wellFormed}
 use Rattle.words.specs.Outcomes.{startOf, stepOf}
-use Rattle.wire.specs.Frames.{writeOf}
 
 -- an outcome with its answer in numbers
 abbrev pub inNumbers : Answer × List ℕ → Told × List ℕ

@@ -1,9 +1,9 @@
 -- A history that comes to an end: one process moves once more than all others, and then wants nothing.
 -- Assumes nothing.
+use Prim.Native.Nat.{ℕ, suc, _≤_, _<_}
 use mathlib.Core.Path.{_≡_}
 use mathlib.Core.List.{[]}
 use mathlib.Core.Logic.{_≢_}
-use Prim.Native.Nat.{ℕ, suc, _≤_, _<_}
 use lib.ListN.{length}
 use Rattle.ring.specs.Ring.{stays, Ring, queueOf, Rules, procOf}
 use Rattle.clocks.proofs.Histories.{History, Tells}

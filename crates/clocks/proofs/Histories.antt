@@ -1,7 +1,7 @@
 -- What each process of a ring does by itself, counted in moves of its own: its history. The choices decide only how far
 -- each has come. Assumes nothing.
-use mathlib.Core.Path.{_≡_}
 use Prim.Native.Nat.{ℕ, suc, _+_, _≤_, _<_}
+use mathlib.Core.Path.{_≡_}
 use Rattle.ring.specs.Ring.{Take, right, Want, puts, takes, announces, stays, prev, Rules}
 
 pub record History (P M : Type 0) : Type 0 where

@@ -1,9 +1,9 @@
 -- A ring that was reached is not stuck before its end: no choice is refused for a wrong kind, and somebody can move.
 -- Assumes nothing.
+use Prim.Native.Nat.{ℕ, suc, _+_, _≤_, _<_}
 use mathlib.Core.Path.{_≡_, ap}
 use mathlib.Core.Bool.{true≢false}
 use mathlib.Core.Logic.{_⊎_, inl, inr, ⊎-elim, _≢_}
-use Prim.Native.Nat.{ℕ, suc, _+_, _≤_, _<_}
 use native.Mathlib.Decide.{decLt}
 use native.Mathlib.Omega.{arith}
 use lib.ListN.{length}
@@ -26,11 +26,11 @@ module _ {P M : Type 0} {G : Rules P M} {n : ℕ} {C : Course G n} {R : Ring P M
   never-wrong j i h = go (decLt j n)
     where
       by : j < n → Case G n c R j → ⊥
-      by l (c-made R′ e moved) = true≢false (cc)
-      by l (c-full x p w some e) = true≢false (cc)
-      by l (c-empty f w none e) = true≢false (cc)
+      by l (c-made R′ e moved) = true≢false cc
+      by l (c-full x p w some e) = true≢false cc
+      by l (c-empty f w none e) = true≢false cc
       by l (c-wrong f x q w hq hm e) = fits (C .tells) (r .clocked) j l w hq hm
-      by l (c-over w e) = true≢false (cc)
+      by l (c-over w e) = true≢false cc
 
       go : Dec (j < n) → ⊥
       go (yes l) = by l (case-of G n c R j l)

@@ -1,13 +1,13 @@
 -- How the history of the gateways ends: the one that is left leads, and the others have passed on as much as it.
 -- Assumes nothing.
+use Prim.Native.Nat.{ℕ, suc, _+_, _*_, _/_, _%_, _≤_, _<_}
 use mathlib.Core.Path.{_≡_, ap, _∙_, subst}
 use mathlib.Core.List.{List}
 use mathlib.Core.Logic.{_≢_}
-use Prim.Native.Nat.{ℕ, suc, _+_, _*_, _/_, _%_, _≤_, _<_}
 use native.Mathlib.Decide.{decLt, ℕ-discrete}
 use native.Mathlib.Omega.{arith}
-use borrow.Author.Needs.{needs}
 use lib.ListN.{length}
+use borrow.Author.Needs.{needs}
 use Rattle.gateway.specs.declared.State.the-variants.{Leads}
 use Rattle.gateway.specs.declared.Kind.the-variants.{Passive}
 use Rattle.gateway.specs.Row.{proc}

@@ -1,8 +1,8 @@
 -- The rule of the election: of the seats that hold a value at most half do so in the next round. Assumes nothing.
+use Prim.Native.Nat.{ℕ, zero, suc, max, _+_, _*_, _^_, _≤_, _<_}
 use mathlib.Core.Path.{_≡_, refl, ap}
 use mathlib.Core.List.{List}
 use mathlib.Core.Logic.{ite, if-pos}
-use Prim.Native.Nat.{ℕ, zero, suc, max, _+_, _*_, _^_, _≤_, _<_}
 use native.Mathlib.Nat.{mul-le-mul-left, pow-suc}
 use native.Mathlib.Decide.{decLt}
 use native.Mathlib.Omega.{arith}

@@ -1,6 +1,6 @@
 -- Each round has four moves and two messages: which round, and which of them, by number. Assumes nothing.
-use mathlib.Core.Path.{_≡_, ap₂, _∙_}
 use Prim.Native.Nat.{ℕ, suc, _+_, _*_, _/_, _%_, _<_}
+use mathlib.Core.Path.{_≡_, ap₂, _∙_}
 use native.Mathlib.Nat.{add-zero, div-eq-of-lt, mod-eq-of-lt, mul-add-div, mul-add-mod-self-left}
 use native.Mathlib.Decide.{decLt}
 use native.Mathlib.Omega.{arith}

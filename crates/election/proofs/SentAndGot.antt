@@ -1,6 +1,6 @@
 -- How many messages a gateway has sent and got on its way through a round. Assumes nothing.
-use mathlib.Core.Path.{_≡_, ap, sym}
 use Prim.Native.Nat.{ℕ, zero, suc, _+_, _≤_, _<_}
+use mathlib.Core.Path.{_≡_, ap, sym}
 use native.Mathlib.Decide.{ℕ-discrete}
 use native.Mathlib.Omega.{arith}
 use Rattle.gateway.specs.declared.State.the-variants.{Leads}

@@ -1,7 +1,7 @@
 -- One gateway in one round, move by move: its seat, and what it hears, tell all that it does. Assumes nothing.
+use Prim.Native.Nat.{ℕ, zero, suc, max, _+_, _≤_, _<_}
 use mathlib.Core.Path.{_≡_, refl, ap, sym, _∙_}
 use mathlib.Core.Logic.{ite, _≢_}
-use Prim.Native.Nat.{ℕ, zero, suc, max, _+_, _≤_, _<_}
 use native.Mathlib.Decide.{decLt, ℕ-discrete}
 use native.Mathlib.Omega.{arith}
 use borrow.Author.Needs.{needs}

@@ -1,11 +1,11 @@
 -- Demand 3, to be read aloud: for every list of at least one identity, pairwise different, every capacity and every
 -- list of choices, refused ones included. 1 to 6 are of the ring that a start makes, 7 is of the words of a slice.
 -- No upper limit is asked, and a capacity of at least 1 only where it is named. Assumes nothing.
+use Prim.Native.Nat.{ℕ, _^_, _≤_, _<_}
 use mathlib.Core.Path.{_≡_, ap, _∙_}
 use mathlib.Core.Bool.{true, false}
 use mathlib.Core.List.{List, _++_}
 use mathlib.Core.Logic.{_≢_}
-use Prim.Native.Nat.{ℕ, _^_, _≤_, _<_}
 use lib.ListN.{length}
 use Rattle.refusal.specs.declared.Refusal.the-variants.{WrongKind}
 use Rattle.refusal.specs.declared.Answer.the-variants.{Done, Refused}

@@ -5,16 +5,16 @@ use mathlib.Core.Path.{_≡_, sym, ap, _∙_, subst}
 use mathlib.Core.List.{List, _++_}
 use mathlib.Core.Option.{some}
 use lib.ListN.{length, take, drop}
-use Rattle.gateway.specs.declared.Kind.{Kind}
-use Rattle.gateway.specs.declared.Msg.{Msg}
-use Rattle.gateway.specs.Row.{msg}
-use Rattle.gateway.specs.Numbers.{kindNumber}
 use Rattle.refusal.specs.declared.Refusal.{Refusal}
 use Rattle.refusal.specs.declared.Answer.{Answer}
 use Rattle.refusal.specs.declared.Answer.the-variants.{Done}
 use Rattle.refusal.specs.declared.Told.{Told}
 use Rattle.refusal.specs.Numbered.{told}
 use Rattle.refusal.proofs.Outcomes.{outcome-left}
+use Rattle.gateway.specs.declared.Kind.{Kind}
+use Rattle.gateway.specs.declared.Msg.{Msg}
+use Rattle.gateway.specs.Row.{msg}
+use Rattle.gateway.specs.Numbers.{kindNumber}
 use Rattle.wire.specs.declared.Reading.{Reading}
 use Rattle.wire.specs.declared.Reading.the-variants.{Message}
 use Rattle.wire.specs.declared.ReadTold.{ReadTold}

@@ -4,13 +4,9 @@ use mathlib.Core.Path.{_≡_, refl, sym, ap, ap₂, subst, _∙_}
 use mathlib.Core.Bool.{cond}
 use mathlib.Core.List.{List, _++_}
 use native.Mathlib.Omega.{arith}
-use borrow.Author.Tests.{ne-eqb}
 use lib.Dec.{eqb}
 use lib.ListN.{length}
-use Rattle.gateway.specs.declared.Kind.{Kind}
-use Rattle.gateway.specs.declared.Msg.{Msg}
-use Rattle.gateway.specs.Row.{msg}
-use Rattle.gateway.specs.Numbers.{kindNumber}
+use borrow.Author.Tests.{ne-eqb}
 use Rattle.refusal.specs.declared.Refusal.{Refusal}
 use Rattle.refusal.specs.declared.Answer.{Answer}
 use Rattle.refusal.specs.declared.Answer.the-variants.{Done, Refused}
@@ -18,10 +14,18 @@ use Rattle.refusal.specs.declared.Told.{Told}
 use Rattle.refusal.specs.Numbered.{numbered, told}
 use Rattle.refusal.proofs.Apart.{told-apart, zero-done, numbered-never-zero}
 use Rattle.refusal.proofs.Outcomes.{outcome-left}
+use Rattle.gateway.specs.declared.Kind.{Kind}
+use Rattle.gateway.specs.declared.Msg.{Msg}
+use Rattle.gateway.specs.Row.{msg}
+use Rattle.gateway.specs.Numbers.{kindNumber}
+use Rattle.wire.specs.declared.Reading.{Reading}
+use Rattle.wire.specs.declared.Reading.the-variants.{Message}
+use Rattle.wire.specs.declared.ReadTold.{ReadTold}
+use Rattle.wire.specs.Frames.{frameLength, readOf, readTold, writeOf}
+use Rattle.wire.proofs.Promises.{refusal-writes-nothing, each-generation-written-read}
+use Rattle.wire.proofs.GivenWhen.{Reads, Writes, read-exactly, write-exactly}
 use Rattle.words.specs.declared.Ran.{Ran}
-use Rattle.words.specs.declared.Ran.the-variants as Ran
 use Rattle.words.specs.declared.Leading.{Leading}
-use Rattle.words.specs.declared.Leading.the-variants as Leading
 use Rattle.words.specs.Outcomes.{
   startOf,
   stepOf,
@@ -45,13 +49,6 @@ use Rattle.words.proofs.GivenWhen.{
   run-exactly,
   leads-exactly,
 }
-use Rattle.wire.specs.declared.Reading.{Reading}
-use Rattle.wire.specs.declared.Reading.the-variants.{Message}
-use Rattle.wire.specs.declared.Reading.the-variants as Reading
-use Rattle.wire.specs.declared.ReadTold.{ReadTold}
-use Rattle.wire.specs.Frames.{frameLength, readOf, readTold, writeOf}
-use Rattle.wire.proofs.Promises.{refusal-writes-nothing, each-generation-written-read}
-use Rattle.wire.proofs.GivenWhen.{Reads, Writes, read-exactly, write-exactly}
 use Rattle.hub.specs.declared.ThkRan.{ThkRan}
 use Rattle.hub.specs.declared.ThkLeading.{ThkLeading}
 use Rattle.hub.specs.Edge.{toldOf, ranOf, thkLeading}
@@ -135,8 +132,8 @@ refused-run-same t schedule budget r t′ h n =
 pub outcome-apart : (o q : Answer × List ℕ) → toldOf o ≡ toldOf q → o ≡ q
 outcome-apart o q e = ap₂ (λ a l. (a, l)) (told-apart (o .0) (q .0) (ap (λ p. p .0) e)) (ap (λ p. p .1) e)
 
-abbrev run-told : ℕ → ThkRan → RunTold
-run-told p x = record { number = x .number; place = p; end = x .end; taken = x .taken; skipped = x .skipped }
+abbrev runNumbers : ℕ → ThkRan → RunTold
+runNumbers p x = record { number = x .number; place = p; end = x .end; taken = x .taken; skipped = x .skipped }
 
 -- so are two runs: the place that C is not told is always 0
 pub run-apart : (t schedule : List ℕ) (budget : ℕ) (t′ schedule′ : List ℕ) (budget′ : ℕ) →
@@ -147,17 +144,17 @@ run-apart t schedule budget t′ schedule′ budget′ e =
     let q = runOf t′ schedule′ budget′ in
     let p : runTold (o .0) .place ≡ runTold (q .0) .place =
     run-exactly t schedule budget .only .no-place ∙ sym (run-exactly t′ schedule′ budget′ .only .no-place) in
-    ap₂ (λ a l. (a, l)) (run-told-apart (o .0) (q .0) (ap₂ run-told p (ap (λ x. x .0) e))) (ap (λ x. x .1) e)
+    ap₂ (λ a l. (a, l)) (run-told-apart (o .0) (q .0) (ap₂ runNumbers p (ap (λ x. x .0) e))) (ap (λ x. x .1) e)
 
-abbrev lead-told : ℕ → ThkLeading → LeadTold
-lead-told p x = record { number = x .number; place = p; found = x .some; process = x .process; value = x .value }
+abbrev leadNumbers : ℕ → ThkLeading → LeadTold
+leadNumbers p x = record { number = x .number; place = p; found = x .some; process = x .process; value = x .value }
 
 -- and two answers on who leads
 pub leads-apart : (t t′ : List ℕ) → thkLeading (leadsOf t) ≡ thkLeading (leadsOf t′) → leadsOf t ≡ leadsOf t′
 leads-apart t t′ e =
     let p : leadTold (leadsOf t) .place ≡ leadTold (leadsOf t′) .place =
     leads-exactly t .only .no-place ∙ sym (leads-exactly t′ .only .no-place) in
-    lead-told-apart (leadsOf t) (leadsOf t′) (ap₂ lead-told p e)
+    lead-told-apart (leadsOf t) (leadsOf t′) (ap₂ leadNumbers p e)
 
 -- frames --
 

@@ -5,9 +5,9 @@ use mathlib.Core.Path.{_≡_}
 use mathlib.Core.List.{List}
 use Rattle.refusal.specs.declared.Told.{Told}
 use Rattle.refusal.proofs.Outcomes.{outcome-settled}
-use Rattle.words.specs.Outcomes.{startOf, stepOf, runOf, leadsOf}
 use Rattle.wire.specs.declared.ReadTold.{ReadTold}
 use Rattle.wire.specs.Frames.{readOf, readTold, writeOf}
+use Rattle.words.specs.Outcomes.{startOf, stepOf, runOf, leadsOf}
 use Rattle.hub.specs.declared.ThkRan.{ThkRan}
 use Rattle.hub.specs.declared.ThkLeading.{ThkLeading}
 use Rattle.hub.specs.Edge.{toldOf, ranOf, thkLeading}

@@ -5,8 +5,8 @@ use wire::ReadTold;
 use words::Leading;
 use words::Ran;
 ghost use mathlib.Core.Path.{_≡_};
-ghost use Rattle.words.specs.Outcomes.{startOf, stepOf, runOf, leadsOf};
 ghost use Rattle.wire.specs.Frames.{readOf, readTold, writeOf};
+ghost use Rattle.words.specs.Outcomes.{startOf, stepOf, runOf, leadsOf};
 ghost use Rattle.hub.specs.Edge.{toldOf, thkRan, ranOf, thkLeading};
 
 // What a run tells: C's thk_ran.

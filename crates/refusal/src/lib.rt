@@ -34,25 +34,56 @@ pub struct Told {
     pub place: u32,
 }
 
+// The number of identities is out of range; this and what follows are document 01's numbers.
+pub const COUNT: u32 = 1;
+// The capacity is out of range.
+pub const CAPACITY: u32 = 2;
+// The slice is shorter than the table.
+pub const SHORT: u32 = 3;
+// An identity repeats.
+pub const REPEATED: u32 = 4;
+// The table is malformed.
+pub const MALFORMED: u32 = 5;
+// There is no such process.
+pub const NO_PROCESS: u32 = 6;
+// The queue to take from is empty.
+pub const EMPTY: u32 = 7;
+// The queue to put to is full.
+pub const FULL: u32 = 8;
+// The oldest message is of the wrong kind.
+pub const WRONG_KIND: u32 = 9;
+// The process is in state 6.
+pub const OVER: u32 = 10;
+// There is no byte.
+pub const NO_BYTE: u32 = 11;
+// The kind byte is unknown.
+pub const UNKNOWN_KIND: u32 = 12;
+// The kind is known and the frame cut short.
+pub const CUT: u32 = 13;
+// There is no room for a frame.
+pub const NO_ROOM: u32 = 14;
+// No frame has this generation or kind.
+pub const NO_FRAME: u32 = 15;
+
 fn number(r: Refusal) -> u32
     ensures { λ x. ⌜ x ≡ numbered r .number ⌝ }
 {
     match r {
-        Refusal::Count => 1,
-        Refusal::Capacity => 2,
-        Refusal::Short => 3,
-        Refusal::Repeated(_) => 4,
-        Refusal::Malformed => 5,
-        Refusal::NoProcess(_) => 6,
-        Refusal::Empty(_) => 7,
-        Refusal::Full(_) => 8,
-        Refusal::WrongKind(_) => 9,
-        Refusal::Over(_) => 10,
-        Refusal::NoByte => 11,
-        Refusal::UnknownKind => 12,
-        Refusal::Cut(_) => 13,
-        Refusal::NoRoom => 14,
-        Refusal::NoFrame => 15,
+        Refusal::Count => COUNT,
+        Refusal::Capacity => CAPACITY,
+        Refusal::Short => SHORT,
+        Refusal::Repeated(_) => REPEATED,
+        Refusal::Malformed => MALFORMED,
+        Refusal::NoProcess(_) => NO_PROCESS,
+        Refusal::Empty(_) => EMPTY,
+        Refusal::Full(_) => FULL,
+        Refusal::WrongKind(_) => WRONG_KIND,
+        Refusal::Over(_) => OVER,
+        Refusal::NoByte => NO_BYTE,
+        Refusal::UnknownKind => UNKNOWN_KIND,
+        Refusal::Cut(_) => CUT,
+        Refusal::NoRoom => NO_ROOM,
+        Refusal::NoFrame => NO_FRAME,
     }
 }
 

@@ -8,7 +8,6 @@ use Rattle.refusal.specs.declared.Refusal.{Refusal}
 use Rattle.refusal.proofs.Outcomes.{outcome-known}
 use Rattle.words.specs.declared.Leading.{Leading}
 use Rattle.words.specs.declared.Ran.{Ran}
-use Rattle.words.specs.declared.Ran.the-variants as Ran
 use Rattle.words.specs.Outcomes.{runOf, leadsOf}
 use Rattle.table.proofs.Entries.{ran-counts}
 use Rattle.trial.specs.Trace.{traceOf}

@@ -12,7 +12,7 @@ use Rattle.refusal.specs.declared.Answer.the-variants.{Done, Refused}
 use Rattle.words.specs.Layout.{statePlace, recordPlace}
 use Rattle.words.specs.Table.{capacityOf}
 use Rattle.words.specs.Outcomes.{stepOf}
-use Rattle.trial.specs.Trace.{Step, stateWord, stepFrom, taken, traceOf}
+use Rattle.trial.specs.Trace.{Step, stateWord, stepFrom, withStep, traceOf}
 use Rattle.trial.specs.Text.{stepLine, stepLines}
 use Rattle.report.specs.Inside.{Room, wrote, step, stepRoom}
 use Rattle.report.proofs.Laid.{wrote-both, wrote-nothing}
@@ -58,7 +58,7 @@ module _ (t₀ choices out₀ t out : List ℕ) (at k i : ℕ) (g : Going t₀ c
 
     -- one choice is taken from those that are left
     next : (a : Answer) → (a, t′) ≡ stepOf t j →
-        traceOf t (drop i choices) ≡ taken a (stepFrom t t′ j) (traceOf t′ (drop (i + 1) choices))
+        traceOf t (drop i choices) ≡ withStep a (stepFrom t t′ j) (traceOf t′ (drop (i + 1) choices))
     unfolding traceOf
     next a e = rw (drop-cons choices i 0 more, ← e, add-one i)
 

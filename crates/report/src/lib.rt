@@ -1,8 +1,8 @@
 // What the bench program prints of its standard input, as a text in a lent buffer.
 use refusal::Answer;
 use trial::Asked;
-ghost use mathlib.Core.Path.{_≡_};
 ghost use Prim.Native.Nat.{_≤_};
+ghost use mathlib.Core.Path.{_≡_};
 ghost use Rattle.words.specs.Layout.{mostProcesses};
 ghost use Rattle.trial.specs.Report.{ringText, printedOf};
 ghost use Rattle.report.specs.Inside.{wrote};

@@ -1,9 +1,9 @@
 // The lines of the text, put into a buffer from a place on. Each answers where it ends.
 use refusal::Refusal;
 use words::Leading;
+ghost use Prim.Native.Nat.{_+_, _≤_, _<_};
 ghost use mathlib.Core.Path.{_≡_};
 ghost use mathlib.Core.List.{_++_};
-ghost use Prim.Native.Nat.{_+_, _≤_, _<_};
 ghost use lib.ListN.{length};
 ghost use Rattle.trial.specs.Text.{decimal, refusedLine, stepLine, leaderPart, endLine};
 ghost use Rattle.trial.specs.Text.{digit as Text·digit};
@@ -65,7 +65,7 @@ fn number(out: &mut [u8], at: usize, n: u32) -> usize
 }
 
 // A word and a number.
-fn field(out: &mut [u8], at: usize, word: &[u8], n: u32) -> usize
+fn labelled(out: &mut [u8], at: usize, word: &[u8], n: u32) -> usize
     requires { ⌜ Room (now out) at (length (now word) + mostDigits) ⌝ }
     ensures { λ r. ⌜ (r, now (out .exit)) ≡ wrote (now (out .entry)) at (now (word .entry) ++ decimal n) ⌝ }
     ensures { λ r. ⌜ r ≤ at + (length (now (word .entry)) + mostDigits) ⌝ }
@@ -80,7 +80,7 @@ pub(crate) fn refused(out: &mut [u8], at: usize, why: Refusal) -> usize
     ensures { λ r. ⌜ (r, now (out .exit)) ≡ wrote (now (out .entry)) at (refusedLine why) ⌝ }
 {
     let t = refusal::numbers(why);
-    let next = field(out, at, b"refused ", t.number);
+    let next = labelled(out, at, b"refused ", t.number);
     put(out, next, b"\n")
 }
 
@@ -99,9 +99,9 @@ pub(crate) fn step(
     ensures { λ r. ⌜ r ≤ at + stepRoom ⌝ }
 {
     let a = number(out, at, k);
-    let b = field(out, a, b" ", process);
-    let c = field(out, b, b" ", before);
-    let d = field(out, c, b" ", after);
+    let b = labelled(out, a, b" ", process);
+    let c = labelled(out, b, b" ", before);
+    let d = labelled(out, c, b" ", after);
     put(out, d, b"\n")
 }
 
@@ -113,8 +113,8 @@ fn leader(out: &mut [u8], at: usize, who: Leading) -> usize
 {
     match who {
         Leading::Leader { process, value } => {
-            let next = field(out, at, b" leader ", process);
-            field(out, next, b" value ", value)
+            let next = labelled(out, at, b" leader ", process);
+            labelled(out, next, b" value ", value)
         }
         Leading::Nobody => put(out, at, b" leader - value -"),
         Leading::Refused(_) => put(out, at, b" leader - value -"),
@@ -133,9 +133,9 @@ pub(crate) fn ended(
     requires { ⌜ Room (now out) at endRoom ⌝ }
     ensures { λ r. ⌜ (r, now (out .exit)) ≡ wrote (now (out .entry)) at (endLine end taken skipped who) ⌝ }
 {
-    let a = field(out, at, b"end ", end);
-    let b = field(out, a, b" taken ", taken);
-    let c = field(out, b, b" skipped ", skipped);
+    let a = labelled(out, at, b"end ", end);
+    let b = labelled(out, a, b" taken ", taken);
+    let c = labelled(out, b, b" skipped ", skipped);
     let d = leader(out, c, who);
     put(out, d, b"\n")
 }

@@ -1,7 +1,7 @@
 -- Whether a value is the one asked for, as 1 or 0. Assumes nothing.
+use Prim.Native.Nat.{ℕ, _≤_}
 use mathlib.Core.Path.{_≡_}
 use mathlib.Core.Logic.{ite, if-pos, if-neg, _≢_}
-use Prim.Native.Nat.{ℕ, _≤_}
 use native.Mathlib.Decide.{ℕ-discrete}
 use native.Mathlib.Omega.{arith}
 use Rattle.ring.specs.Active.{flag}

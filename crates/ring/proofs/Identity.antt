@@ -5,9 +5,9 @@ use mathlib.Core.Bool.{true, false, not}
 use mathlib.Core.List.{List}
 use native.Mathlib.Decide.{decLt}
 use native.Mathlib.Omega.{arith}
-use borrow.Author.Tests.{eqb-true, eqb-false, ne-eqb, not-true, not-false}
 use lib.ListN.{length}
 use lib.Dec.{eqb}
+use borrow.Author.Tests.{eqb-true, eqb-false, ne-eqb, not-true, not-false}
 use Rattle.ring.specs.Identities.{identOf, DistinctBelow, Distinct, isFresh, firstRepeat}
 use Rattle.ring.proofs.Scans.{all-at, all-of, some-fails, first-none, first-before, first-holds}
 

@@ -3,9 +3,9 @@ use Prim.Native.Nat.{ℕ, _<_}
 use mathlib.Core.Path.{_≡_, refl, sym, ap, _∙_}
 use mathlib.Core.Bool.{Bool, true, false}
 use mathlib.Core.Logic.{_≢_}
-use borrow.Author.Tests.{eqb-true, eqb-false, ltb-true}
 use lib.Dec.{eqb, ltb}
 use lib.Seq.{getD-set-other}
+use borrow.Author.Tests.{eqb-true, eqb-false, ltb-true}
 use Rattle.gateway.specs.declared.State.{State}
 use Rattle.gateway.specs.declared.State.the-variants.{Leads}
 use Rattle.gateway.specs.declared.Proc.{Proc}

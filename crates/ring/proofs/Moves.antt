@@ -1,9 +1,9 @@
 -- What comes of a choice, by cases, over any rows. Assumes nothing.
+use Prim.Native.Nat.{ℕ, _≤_, _<_}
 use mathlib.Core.Path.{_≡_, refl, ap, _∙_}
 use mathlib.Core.Bool.{true≢false}
 use mathlib.Core.List.{List, [], _∷_}
 use mathlib.Core.Logic.{if-pos, if-neg}
-use Prim.Native.Nat.{ℕ, _≤_, _<_}
 use native.Mathlib.Decide.{decLt}
 use native.Mathlib.Omega.{arith}
 use lib.ListN.{length}
@@ -97,10 +97,10 @@ module _ {P M : Type 0} (G : Rules P M) (n c : ℕ) where
     where
       by : Case R j → Made R j R′
       by (c-made A z m) = let same : R′ ≡ A = cc in rw same m
-      by (c-full m p a b z) = absurd (true≢false (cc))
-      by (c-empty k a b z) = absurd (true≢false (cc))
-      by (c-wrong k m q a b d z) = absurd (true≢false (cc))
-      by (c-over a z) = absurd (true≢false (cc))
+      by (c-full m p a b z) = absurd (true≢false cc)
+      by (c-empty k a b z) = absurd (true≢false cc)
+      by (c-wrong k m q a b d z) = absurd (true≢false cc)
+      by (c-over a z) = absurd (true≢false cc)
 
       go : Dec (j < n) → (j < n) × Made R j R′
       go (yes l) = (l, by (case-of R j l))
@@ -108,6 +108,6 @@ module _ {P M : Type 0} (G : Rules P M) (n c : ℕ) where
 
   -- who moved wanted something
   pub mover-wants : (R : Ring P M) (j : ℕ) (R′ : Ring P M) → Made R j R′ → wants G R j ≡ stays → ⊥
-  mover-wants R j _ (made-put m p w room) z = true≢false (cc)
-  mover-wants R j _ (made-take k m q p w hq e) z = true≢false (cc)
-  mover-wants R j _ (made-announce p w) z = true≢false (cc)
+  mover-wants R j _ (made-put m p w room) z = true≢false cc
+  mover-wants R j _ (made-take k m q p w hq e) z = true≢false cc
+  mover-wants R j _ (made-announce p w) z = true≢false cc

@@ -93,7 +93,7 @@ tells-of i Compares d e b = go (ℕ-discrete d e)
     go (yes h) = (refl, h)
     go (no h) = inr (inr (refl, h))
 tells-of i Decides d e b = (inr (inl refl), λ m h. inr (refl, decides-wrong _ (m .kind) (m .value) h))
-tells-of i Relays d e b = (inr (inr refl), λ m h. absurd (true≢false (cc)))
+tells-of i Relays d e b = (inr (inr refl), λ m h. absurd (true≢false cc))
 tells-of i Carries d e b = inl refl
 tells-of i Leads d e b = refl
 

@@ -1,6 +1,6 @@
 -- From round to round: no seat comes to hold a value again, and no value to be held twice. Assumes nothing.
-use mathlib.Core.Path.{_≡_, ap}
 use Prim.Native.Nat.{ℕ, zero, suc, _≤_, _<_}
+use mathlib.Core.Path.{_≡_, ap}
 use native.Mathlib.Decide.{ℕ-discrete, le-ind}
 use native.Mathlib.Omega.{arith}
 use Rattle.ring.proofs.Sums.{sum-most, sum-ones, sum-of-one}

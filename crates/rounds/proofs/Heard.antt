@@ -1,6 +1,6 @@
 -- What the seats hold and what they hear first, counted: each value is heard as often as it is held. Assumes nothing.
-use mathlib.Core.Path.{_≡_, refl, ap}
 use Prim.Native.Nat.{ℕ, zero, suc, _+_, _≤_}
+use mathlib.Core.Path.{_≡_, refl, ap}
 use native.Mathlib.Omega.{arith}
 use Rattle.ring.specs.Active.{sum, flag}
 use Rattle.ring.proofs.Flags.{flag-one, flag-is, flag-bit}

@@ -1,6 +1,6 @@
 -- What goes round a ring of seats no longer changes after two laps. Assumes nothing.
-use mathlib.Core.Path.{_≡_, refl, ap, subst}
 use Prim.Native.Nat.{ℕ, zero, suc, _-_, _≤_, _<_}
+use mathlib.Core.Path.{_≡_, refl, ap, subst}
 use native.Mathlib.Decide.{ℕ-discrete, le-ind}
 use native.Mathlib.Omega.{arith}
 use Rattle.ring.specs.Ring.{prev}

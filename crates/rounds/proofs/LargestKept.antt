@@ -1,8 +1,8 @@
 -- The largest identity of a fair contest: while two seats hold a value, it is held in the next round too.
 -- Assumes nothing.
+use Prim.Native.Nat.{ℕ, zero, suc, _≤_, _<_}
 use mathlib.Core.Path.{_≡_, refl}
 use mathlib.Core.Logic.{_≢_}
-use Prim.Native.Nat.{ℕ, zero, suc, _≤_, _<_}
 use native.Mathlib.Decide.{ℕ-discrete}
 use native.Mathlib.Omega.{arith}
 use Rattle.ring.proofs.Sums.{term-within, some-term}

@@ -1,7 +1,7 @@
 -- The last round of a contest, and the seat that is left in it. Assumes nothing.
+use Prim.Native.Nat.{ℕ, suc, _≤_, _<_}
 use mathlib.Core.Path.{_≡_}
 use mathlib.Core.Logic.{_≢_}
-use Prim.Native.Nat.{ℕ, suc, _≤_, _<_}
 use Rattle.rounds.specs.Seats.{holds, isHolding}
 use Rattle.rounds.specs.Contests.{Contest, seatIn, heardIn, holdingIn, roundsOf}
 

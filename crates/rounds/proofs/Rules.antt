@@ -1,6 +1,6 @@
 -- What the rule and the identities of a contest have to be, so that its rounds come to one seat. Assumes nothing.
-use mathlib.Core.Path.{_≡_}
 use Prim.Native.Nat.{ℕ, _≤_, _<_}
+use mathlib.Core.Path.{_≡_}
 use Rattle.ring.specs.Active.{sum, flag}
 use Rattle.rounds.specs.Seats.{Seat, holds, passes, Values, hears, isHolding}
 use Rattle.rounds.specs.Contests.{Contest, seatIn}

@@ -1,7 +1,7 @@
 // The first identity that repeats, of identities that stand w words apart in a slice, from a on.
+ghost use Prim.Native.Nat.{_+_, _*_, _≤_, _<_};
 ghost use mathlib.Core.Path.{_≡_};
 ghost use mathlib.Core.Bool.{not};
-ghost use Prim.Native.Nat.{_+_, _*_, _≤_, _<_};
 ghost use lib.ListN.{length};
 ghost use Rattle.ring.specs.Scan.{firstBelow};
 ghost use Rattle.ring.specs.Identities.{isFresh, firstRepeat};

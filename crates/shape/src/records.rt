@@ -2,9 +2,9 @@
 use crate::identities;
 use crate::places;
 use rows::numbers;
+ghost use Prim.Native.Nat.{_*_, _≤_};
 ghost use mathlib.Core.Path.{_≡_};
 ghost use mathlib.Core.Bool.{true};
-ghost use Prim.Native.Nat.{_*_, _≤_};
 ghost use lib.ListN.{length};
 ghost use Rattle.ring.specs.Scan.{allBelow};
 ghost use Rattle.words.specs.Layout.{slotWidth, recordWidth, tableLength};

@@ -5,9 +5,9 @@ use mathlib.Core.Bool.{Bool, true, false, not, cond}
 use mathlib.Core.List.{List, _++_}
 use native.Mathlib.Decide.{decLt}
 use native.Mathlib.Omega.{arith}
-use borrow.Author.Tests.{lt-ltb, le-ltb}
 use lib.ListN.{length, drop}
 use lib.Dec.{ltb}
+use borrow.Author.Tests.{lt-ltb, le-ltb}
 use Rattle.refusal.specs.declared.Refusal.{Refusal}
 use Rattle.refusal.specs.declared.Refusal.the-variants.{
   Count,
@@ -32,9 +32,7 @@ use Rattle.ring.specs.Identities.{firstRepeat}
 use Rattle.ring.specs.Gateways.{gateways, procAt, started, isIn, leaderOf}
 use Rattle.ring.proofs.Moves.{Case, c-made, c-full, c-empty, c-wrong, c-over, case-of, move-out}
 use Rattle.words.specs.declared.Size.{Size}
-use Rattle.words.specs.declared.Size.the-variants as Size
 use Rattle.words.specs.declared.Leading.{Leading}
-use Rattle.words.specs.declared.Leading.the-variants as Leading
 use Rattle.words.specs.Layout.{mostProcesses, mostCapacity, tableHead, tableLength}
 use Rattle.words.specs.Table.{tableWords, countOf, capacityOf, ringOf}
 use Rattle.words.specs.WellFormed.{inRange, wellFormed}

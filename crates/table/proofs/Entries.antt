@@ -1,6 +1,6 @@
 -- The demands on tables, of every outcome that the contracts of `table::start`, `step`, `run` and `leads` allow.
 -- Assumes nothing.
-use Prim.Native.Nat.{ℕ, _+_, _-_, _≤_}
+use Prim.Native.Nat.{ℕ, _+_, _≤_}
 use mathlib.Core.Path.{_≡_, sym, ap, subst, _∙_}
 use mathlib.Core.Bool.{true}
 use mathlib.Core.List.{List, _++_}
@@ -12,46 +12,21 @@ use Rattle.refusal.specs.declared.Answer.the-variants.{Done, Refused}
 use Rattle.refusal.specs.declared.Told.{Told}
 use Rattle.refusal.specs.Numbered.{told}
 use Rattle.refusal.proofs.Outcomes.{outcome-left}
-use Rattle.gateway.specs.declared.Proc.{Proc}
-use Rattle.gateway.specs.declared.Msg.{Msg}
-use Rattle.ring.specs.Ring.{Ring, made, move}
-use Rattle.ring.specs.Gateways.{gateways, started, hasLeader, running}
-use Rattle.ring.proofs.Joining.{endOfBoth, run-joins}
+use Rattle.ring.specs.Ring.{made, move}
+use Rattle.ring.specs.Gateways.{gateways, started}
 use Rattle.words.specs.declared.Ran.{Ran}
-use Rattle.words.specs.declared.Ran.the-variants as Ran
 use Rattle.words.specs.declared.Leading.{Leading}
 use Rattle.words.specs.Layout.{tableLength}
 use Rattle.words.specs.Table.{countOf, capacityOf, ringOf}
 use Rattle.words.specs.WellFormed.{wellFormed}
-use Rattle.words.specs.Outcomes.{
-  startOf,
-  rewritten,
-  stepOf,
-  ran,
-  runOf,
-  leadsOf,
-  RunTold,
-  runTold,
-  LeadTold,
-  leadTold,
-}
+use Rattle.words.specs.Outcomes.{startOf, stepOf, runOf, leadsOf, RunTold, runTold, LeadTold, leadTold}
 use Rattle.words.proofs.Refused.{start-refused, step-refused, run-refused}
-use Rattle.words.proofs.Outside.{Holds, with-more, start-beyond, step-beyond, run-beyond, leads-beyond}
+use Rattle.words.proofs.Outside.{Holds, withMore, start-beyond, step-beyond, run-beyond, leads-beyond}
 use Rattle.words.proofs.Starts.{start-formed, start-ring}
 use Rattle.words.proofs.Kept.{step-formed, run-formed}
-use Rattle.words.proofs.Beside.{Beside, ending, ending-beside, move-ring, move-beside, run-ring, run-beside}
+use Rattle.words.proofs.Beside.{Beside, move-ring, move-beside}
 use Rattle.words.proofs.StepByStep.{stepwise, run-by-steps}
-use Rattle.words.proofs.Ended.{
-  step-done,
-  ended-formed,
-  run-is,
-  ended-at,
-  ended-taken,
-  ended-skipped,
-  ended-words,
-  run-within,
-  run-counts,
-}
+use Rattle.words.proofs.Ended.{step-done, run-within, run-counts}
 use Rattle.words.proofs.GivenWhen.{
   Starts,
   Steps,
@@ -82,15 +57,15 @@ refused-run-same t schedule budget a t′ x h e =
 
 pub start-beyond-same : (t more ids : List ℕ) (c : ℕ) (a : Answer) (t′ : List ℕ) →
     tableLength (length ids) c ≤ length t →
-    (a, t′) ≡ startOf (t ++ more) ids c → (a, t′) ≡ with-more (startOf t ids c) more
+    (a, t′) ≡ startOf (t ++ more) ids c → (a, t′) ≡ withMore (startOf t ids c) more
 start-beyond-same t more ids c a t′ room h = h ∙ start-beyond t more ids c room
 
 pub step-beyond-same : (t more : List ℕ) (j : ℕ) (a : Answer) (t′ : List ℕ) → Holds t →
-    (a, t′) ≡ stepOf (t ++ more) j → (a, t′) ≡ with-more (stepOf t j) more
+    (a, t′) ≡ stepOf (t ++ more) j → (a, t′) ≡ withMore (stepOf t j) more
 step-beyond-same t more j a t′ room h = h ∙ step-beyond t more room j
 
 pub run-beyond-same : (t more schedule : List ℕ) (budget : ℕ) (a : Ran) (t′ : List ℕ) → Holds t →
-    (a, t′) ≡ runOf (t ++ more) schedule budget → (a, t′) ≡ with-more (runOf t schedule budget) more
+    (a, t′) ≡ runOf (t ++ more) schedule budget → (a, t′) ≡ withMore (runOf t schedule budget) more
 run-beyond-same t more schedule budget a t′ room h = h ∙ run-beyond t more room schedule budget
 
 pub leads-beyond-same : (t more : List ℕ) (a : Leading) → Holds t → a ≡ leadsOf (t ++ more) → a ≡ leadsOf t
@@ -143,41 +118,6 @@ ran-counts t schedule budget e k s t′ h =
       ap (λ p. runTold (p .0) .skipped) h,
       run-counts t schedule budget,
     )
-
--- a run and then another, with what is left of the budget, is a run of both schedules; it ends as the second does,
--- unless the first had spent its budget
-pub ran-then-ran : (t xs ys : List ℕ) (budget e k s : ℕ) (t₁ : List ℕ) (e′ k′ s′ : ℕ) (t₂ : List ℕ) →
-    (Ran.Ended e k s, t₁) ≡ runOf t xs budget →
-    (Ran.Ended e′ k′ s′, t₂) ≡ runOf t₁ ys (budget - k) →
-    (Ran.Ended (endOfBoth e e′) (k + k′) (s + s′), t₂) ≡ runOf t (xs ++ ys) budget
-ran-then-ran t xs ys budget e k s t₁ e′ k′ s′ t₂ h h′ =
-    let n = countOf t in
-    let c = capacityOf t in
-    let ok = ended-formed t xs budget e k s t₁ h in
-    let r = running n c xs (ringOf t) budget 0 0 in
-    let q : (Ran.Ended e k s, t₁) ≡ ran t r = h ∙ run-is t xs budget ok in
-    let words = ended-words t e k s t₁ r q in
-    let b = run-beside t ok xs budget in
-    let ok₁ : wellFormed t₁ ≡ true = rw words (b .formed) in
-    let ring : ringOf t₁ ≡ r .ring = ap ringOf words ∙ run-ring t ok xs budget in
-    let r′ = running n c ys (r .ring) (budget - r .taken) 0 0 in
-    let q′ : (Ran.Ended e′ k′ s′, t₂) ≡ ran t r′ =
-    h′ ∙ run-is t₁ ys (budget - k) ok₁
-    ∙ ap (λ (R : Ring Proc Msg). ending t₁ ys R (budget - k) 0 0) ring
-    ∙ ap (λ (u : List ℕ). ending u ys (r .ring) (budget - k) 0 0) words
-    ∙ ending-beside t (rewritten t (r .ring)) b ys (r .ring) (budget - k) 0 0
-    ∙ ap (λ (k : ℕ). ending t ys (r .ring) (budget - k) 0 0) (ended-taken t e k s t₁ r q) in
-    rw (
-      ended-at t e k s t₁ r q,
-      ended-taken t e k s t₁ r q,
-      ended-skipped t e k s t₁ r q,
-      ended-at t e′ k′ s′ t₂ r′ q′,
-      ended-taken t e′ k′ s′ t₂ r′ q′,
-      ended-skipped t e′ k′ s′ t₂ r′ q′,
-      ended-words t e′ k′ s′ t₂ r′ q′,
-    )
-    (ap (ran t) (sym (run-joins gateways n c (hasLeader n) xs ys (ringOf t) budget))
-    ∙ sym (run-is t (xs ++ ys) budget ok))
 
 -- each refusal number is told exactly when document 01 says, and so is the place --
 

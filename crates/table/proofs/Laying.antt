@@ -5,9 +5,9 @@ use mathlib.Core.List.{List, [], _∷_, _++_, append-nil, append-assoc}
 use native.Mathlib.Nat.{suc-mul, zero-mul, add-sub-cancel-left}
 use native.Mathlib.Numerals.{add-one}
 use native.Mathlib.Omega.{arith}
-use borrow.Rule.Slice.PartMut.{midOf, putMid}
 use lib.ListN.{length, getD, set, length-replicate, replicate-append-replicate}
 use lib.Seq.{take-at, drop-at}
+use borrow.Rule.Slice.PartMut.{midOf, putMid}
 use Rattle.ring.specs.Ring.{queueOf}
 use Rattle.ring.specs.Gateways.{starting, procAt, started}
 use Rattle.ring.proofs.Started.{started-proc, started-queue}

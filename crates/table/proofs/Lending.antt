@@ -4,8 +4,8 @@ use mathlib.Core.Path.{_≡_, sym}
 use mathlib.Core.List.{List}
 use native.Mathlib.Nat.{add-sub-cancel-left}
 use native.Mathlib.Omega.{arith}
-use borrow.Rule.Slice.PartMut.{midOf, putMid}
 use lib.ListN.{getD}
+use borrow.Rule.Slice.PartMut.{midOf, putMid}
 use Rattle.words.specs.Layout.{lengthPlace, recordWidth, recordPlace}
 use Rattle.words.specs.Table.{recordAt, lengthOf}
 use Rattle.words.proofs.Tables.{record-word, record-part}

@@ -5,7 +5,6 @@ use mathlib.Core.List.{List, [], _∷_, _++_, append-nil}
 use native.Mathlib.Nat.{add-comm}
 use native.Mathlib.Numerals.{add-one}
 use native.Mathlib.Omega.{arith}
-use borrow.Rule.Slice.PartMut.{putMid}
 use lib.ListN.{length, getD, take, drop, set, length-append, length-drop, drop-of-length-le}
 use lib.Seq.{
   length-take-le,
@@ -17,6 +16,7 @@ use lib.Seq.{
   getD-append-add,
   getD-drop,
 }
+use borrow.Rule.Slice.PartMut.{putMid}
 use Rattle.words.specs.Layout.{valuePlace, kindPlace, slotWidth}
 use Rattle.table.specs.Inside.{shifted}
 

@@ -20,7 +20,6 @@ use Rattle.ring.specs.Gateways.{gateways, isIn, hasLeader, leaderOf, running}
 use Rattle.ring.proofs.Leaders.{leader-found, leader-next}
 use Rattle.ring.proofs.Running.{run-over, run-used-up, run-spent, run-on}
 use Rattle.words.specs.declared.Ran.{Ran}
-use Rattle.words.specs.declared.Ran.the-variants as Ran
 use Rattle.words.specs.Table.{countOf, capacityOf, ringOf}
 use Rattle.words.specs.WellFormed.{wellFormed}
 use Rattle.words.specs.Outcomes.{rewritten, runOf}

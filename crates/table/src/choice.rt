@@ -7,9 +7,9 @@ use gateway::Took;
 use gateway::Want;
 use refusal::Answer;
 use refusal::Refusal;
+ghost use Prim.Native.Nat.{_≤_, _<_};
 ghost use mathlib.Core.Path.{_≡_};
 ghost use mathlib.Core.Bool.{false};
-ghost use Prim.Native.Nat.{_≤_, _<_};
 ghost use Rattle.gateway.specs.declared.Want.the-variants.{Takes};
 ghost use Rattle.gateway.specs.Row.{inState};
 ghost use Rattle.ring.specs.Ring.{prev, puts};
@@ -21,16 +21,6 @@ ghost use Rattle.table.specs.Inside.{Formed, isLeads, coded, served, mov
 pub(crate) const MOVED: u32 = 0;
 // A move that announced.
 pub(crate) const ANNOUNCED: u32 = 1;
-// No such process.
-const NO_PROCESS: u32 = 6;
-// The queue to take from is empty.
-const EMPTY: u32 = 7;
-// The queue to put to is full.
-const FULL: u32 = 8;
-// The oldest message is of the wrong kind.
-const WRONG_KIND: u32 = 9;
-// The process is in state 6.
-const OVER: u32 = 10;
 
 // The process from which j takes.
 fn before(n: u32, j: u32) -> u32
@@ -48,7 +38,7 @@ fn put_move(table: &mut [u32], c: u32, j: u32, m: Msg, s: State) -> u32
         (served (now (table .entry)) j (puts m (inState s (procAt (ringOf (now (table .entry))) j)))) ⌝ }
 {
     if c <= lent::length_at(table, c, j) {
-        return FULL;
+        return refusal::FULL;
     }
     lent::put_at(table, c, j, m, s);
     MOVED
@@ -62,11 +52,11 @@ fn take_move(table: &mut [u32], n: u32, c: u32, j: u32, p: Proc) -> u32
 {
     let i = before(n, j);
     if lent::length_at(table, c, i) == 0 {
-        return EMPTY;
+        return refusal::EMPTY;
     }
     let m = lent::oldest_at(table, c, i);
     match rows::take_in(p, m) {
-        Took::Wrong => WRONG_KIND,
+        Took::Wrong => refusal::WRONG_KIND,
         Took::Becomes(q) => {
             lent::set_proc_at(table, c, j, q);
             lent::take_at(table, c, i);
@@ -81,7 +71,7 @@ pub(crate) fn advance(table: &mut [u32], n: u32, c: u32, j: u32) -> u32
     ensures { λ r. ⌜ (r, now (table .exit)) ≡ coded (now (table .entry)) j (moveOf (now (table .entry)) j) ⌝ }
 {
     if n <= j {
-        return NO_PROCESS;
+        return refusal::NO_PROCESS;
     }
     let p = lent::read_at(table, c, j);
     match rows::wants(p) {
@@ -95,7 +85,7 @@ pub(crate) fn advance(table: &mut [u32], n: u32, c: u32, j: u32) -> u32
             lent::set_state_at(table, c, j, s);
             ANNOUNCED
         }
-        Want::Ends => OVER,
+        Want::Ends => refusal::OVER,
     }
 }
 
@@ -106,16 +96,16 @@ pub(crate) fn answer(number: u32, n: u32, j: u32) -> Answer
     if number <= ANNOUNCED {
         return Answer::Done;
     }
-    if number == NO_PROCESS {
+    if number == refusal::NO_PROCESS {
         return Answer::Refused(Refusal::NoProcess(n));
     }
-    if number == EMPTY {
+    if number == refusal::EMPTY {
         return Answer::Refused(Refusal::Empty(j));
     }
-    if number == FULL {
+    if number == refusal::FULL {
         return Answer::Refused(Refusal::Full(j));
     }
-    if number == WRONG_KIND {
+    if number == refusal::WRONG_KIND {
         return Answer::Refused(Refusal::WrongKind(j));
     }
     Answer::Refused(Refusal::Over(j))

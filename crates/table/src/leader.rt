@@ -2,8 +2,8 @@
 use crate::lent;
 use gateway::State;
 use rows::numbers;
-ghost use mathlib.Core.Path.{_≡_};
 ghost use Prim.Native.Nat.{_<_};
+ghost use mathlib.Core.Path.{_≡_};
 ghost use Rattle.gateway.specs.declared.State.the-variants.{Leads};
 ghost use Rattle.ring.specs.Gateways.{isIn, leaderOf};
 ghost use Rattle.words.specs.Table.{countOf, ringOf};

@@ -1,7 +1,7 @@
 // The words of a start.
 use shape::places;
-ghost use mathlib.Core.Path.{_≡_};
 ghost use Prim.Native.Nat.{_≤_};
+ghost use mathlib.Core.Path.{_≡_};
 ghost use lib.ListN.{length};
 ghost use Rattle.ring.specs.Gateways.{started};
 ghost use Rattle.words.specs.Layout.{mostProcesses, recordHead, tableLength};

@@ -31,17 +31,15 @@ use Rattle.refusal.specs.declared.Answer.the-variants.{Done, Refused}
 use Rattle.refusal.specs.Numbered.{numbered, told}
 use Rattle.refusal.proofs.Apart.{numbered-never-zero}
 use Rattle.words.specs.declared.Ran.{Ran}
-use Rattle.words.specs.declared.Ran.the-variants as Ran
 use Rattle.words.specs.declared.Leading.{Leading}
 use Rattle.words.specs.WellFormed.{wellFormed}
 use Rattle.words.specs.Outcomes.{startOf, runOf, leadsOf, runTold}
 use Rattle.words.proofs.Starts.{start-formed}
 use Rattle.words.proofs.GivenWhen.{run-exactly}
 use Rattle.trial.specs.declared.Asked.{Asked}
-use Rattle.trial.specs.declared.Asked.the-variants as Asked
 use Rattle.trial.specs.Input.{identitiesIn, scheduleIn, askedOf}
 use Rattle.trial.specs.Trace.{Step, traceOf}
-use Rattle.trial.specs.Text.{ascii, digit, digitsIn, field, refusedLine, stepLines, endLine}
+use Rattle.trial.specs.Text.{ascii, digit, digitsIn, labelled, refusedLine, stepLines, endLine}
 use Rattle.trial.specs.Report.{budget, blank, runText, startText, askedText, textOf}
 
 -- what is asked for is refused, or its start answers
@@ -61,7 +59,7 @@ refused-printed s x e = by-asked (askedOf s) e
     by-start : (n : ℕ) (o : Answer × List ℕ) → o .0 ≡ Refused x →
         startText o (scheduleIn n s) (budget n) ≡ refusedLine x
     by-start n (Refused y, t) e = ap refusedLine (let z : y ≡ x = cc in z)
-    by-start n (Done, t) e = absurd (true≢false (cc))
+    by-start n (Done, t) e = absurd (true≢false cc)
 
     by-asked : (a : Asked) → answerBy a s ≡ Refused x → askedText a s ≡ refusedLine x
     by-asked (Asked.Refused y) e = ap refusedLine (let z : y ≡ x = cc in z)
@@ -83,7 +81,7 @@ done-printed s e = by-asked (askedOf s) refl e
   where
     by-start : (n c : ℕ) → askedOf s ≡ Asked.Ring n c → (o : Answer × List ℕ) →
         o ≡ startOf blank (identitiesIn n s) c → o .0 ≡ Done → Starting s
-    by-start n c q (Refused y, t) r e = absurd (true≢false (cc))
+    by-start n c q (Refused y, t) r e = absurd (true≢false cc)
     by-start n c q (Done, t) r e =
         record {
           count = n;
@@ -95,7 +93,7 @@ done-printed s e = by-asked (askedOf s) refl e
         }
 
     by-asked : (a : Asked) → askedOf s ≡ a → answerBy a s ≡ Done → Starting s
-    by-asked (Asked.Refused y) q e = absurd (true≢false (cc))
+    by-asked (Asked.Refused y) q e = absurd (true≢false cc)
     by-asked (Asked.Ring n c) q e = by-start n c q (startOf blank (identitiesIn n s) c) refl e
 
 -- the text tells the answer --
@@ -157,6 +155,6 @@ printed-exactly s x = go (answerOf s) refl
     go : (a : Answer) → answerOf s ≡ a → (textOf s ≡ refusedLine x) ↔ (told a .number ≡ numbered x .number)
     go (Refused y) e = (
       λ q. sym (line-number y) ∙ ap lineNumber (sym (refused-printed s y e) ∙ q) ∙ line-number x,
-      λ q. refused-printed s y e ∙ ap (λ k. field "refused " k ++ ascii "\n") q,
+      λ q. refused-printed s y e ∙ ap (λ k. labelled "refused " k ++ ascii "\n") q,
     )
     go Done e = (λ q. absurd (run (done-printed s e) q), λ q. absurd (omega (arith, q, numbered-never-zero x)))

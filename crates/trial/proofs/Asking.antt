@@ -4,23 +4,20 @@ use mathlib.Core.Path.{_≡_, refl, sym, ap, ap₂, _∙_}
 use mathlib.Core.Bool.{Bool, true, false, true≢false, cond}
 use mathlib.Core.List.{List}
 use native.Mathlib.Omega.{arith}
-use borrow.Author.Tests.{lt-ltb, le-ltb}
 use lib.Dec.{ltb}
 use lib.ListN.{length}
-use Rattle.gateway.specs.declared.Msg.{Msg}
+use borrow.Author.Tests.{lt-ltb, le-ltb}
 use Rattle.refusal.specs.declared.Refusal.{Refusal}
 use Rattle.refusal.specs.declared.Refusal.the-variants.{NoByte}
 use Rattle.refusal.specs.declared.Answer.{Answer}
-use Rattle.refusal.specs.declared.Answer.the-variants as Answer
+use Rattle.gateway.specs.declared.Msg.{Msg}
 use Rattle.wire.specs.declared.Reading.{Reading}
 use Rattle.wire.specs.declared.Reading.the-variants.{Message, Refused}
 use Rattle.words.specs.declared.Size.{Size}
-use Rattle.words.specs.declared.Size.the-variants as Size
 use Rattle.words.specs.Outcomes.{sizeOf}
 use Rattle.words.proofs.Ranges.{Sized, both-sized}
 use Rattle.words.proofs.Sizes.{words-in}
 use Rattle.trial.specs.declared.Asked.{Asked}
-use Rattle.trial.specs.declared.Asked.the-variants as Asked
 use Rattle.trial.specs.Input.{headerLength, countIn, capacityIn, identityAt, unless, inTurn, askedBy, askedOf}
 
 -- frames in order --
@@ -92,9 +89,9 @@ asked-ring s n c e =
     go : (short : Bool) (z : Size) → sizeOf (countIn s) (capacityIn s) ≡ z → (frames : Answer) →
         cond short (Asked.Refused NoByte) (askedBy z frames (countIn s) (capacityIn s)) ≡ Asked.Ring n c →
         Sized n c × (n ≡ countIn s) × (c ≡ capacityIn s)
-    go true z q frames e = absurd (true≢false (cc))
-    go false (Size.Refused x) q frames e = absurd (true≢false (cc))
-    go false (Size.Words w) q (Answer.Refused x) e = absurd (true≢false (cc))
+    go true z q frames e = absurd (true≢false cc)
+    go false (Size.Refused x) q frames e = absurd (true≢false cc)
+    go false (Size.Words w) q (Answer.Refused x) e = absurd (true≢false cc)
     go false (Size.Words w) q Answer.Done e =
         let m : countIn s ≡ n = cc in
         let d : capacityIn s ≡ c = cc in

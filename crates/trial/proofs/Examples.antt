@@ -86,13 +86,13 @@ steps =
     ++ ascii "8 1 3 4\n9 0 0 1\n10 1 4 5\n11 1 5 4\n12 0 1 2\n13 0 2 6\n"
 
 -- of ring 3, 7, 4, and of one whose first identity is the larger, by turns from the last
-abbrev steps-of-three : List ℕ
-steps-of-three =
+abbrev stepsOfThree : List ℕ
+stepsOfThree =
     ascii "1 0 0 1\n2 1 0 1\n3 2 0 1\n4 0 1 2\n5 1 1 2\n6 2 1 2\n7 0 2 3\n8 1 2 3\n9 2 2 3\n10 0 3 4\n"
     ++ ascii "11 1 3 4\n12 2 3 0\n13 2 0 1\n14 0 4 5\n15 0 5 4\n16 1 4 5\n17 1 5 4\n18 2 1 2\n19 2 2 6\n"
 
-abbrev steps-of-other : List ℕ
-steps-of-other =
+abbrev stepsOfOther : List ℕ
+stepsOfOther =
     ascii "1 1 0 1\n2 0 0 1\n3 1 1 2\n4 0 1 2\n5 1 2 3\n6 0 2 3\n7 1 3 0\n"
     ++ ascii "8 0 3 4\n9 1 0 1\n10 0 4 5\n11 0 5 4\n12 1 1 2\n13 1 2 6\n"
 
@@ -100,8 +100,8 @@ steps-of-other =
 abbrev thirds : List ℕ
 thirds = 0 ∷ 1 ∷ 2 ∷ 0 ∷ 1 ∷ 2 ∷ 0 ∷ 1 ∷ 2 ∷ []
 
-abbrev nine-turns : List ℕ
-nine-turns = thirds ++ thirds ++ thirds
+abbrev nineTurns : List ℕ
+nineTurns = thirds ++ thirds ++ thirds
 
 -- both by turns, once more than it takes
 abbrev turns : List ℕ
@@ -122,10 +122,10 @@ pub record Elections : Type 0 where
       ≡ steps ++ ascii "end 1 taken 13 skipped 2 leader 0 value 9\n"
   -- identities 65536 and 5: the other process leads
   pub other : textOf (input 2 1 ((0x41 ∷ 0x00 ∷ 0x01 ∷ 0x00 ∷ 0x00 ∷ []) ++ low 5 ++ (1 ∷ turns)))
-      ≡ steps-of-other ++ ascii "end 1 taken 13 skipped 2 leader 1 value 65536\n"
+      ≡ stepsOfOther ++ ascii "end 1 taken 13 skipped 2 leader 1 value 65536\n"
   -- ring 3, 7, 4 at capacity 2: 19 taken, process 2 leads with 7
-  pub three : textOf (input 3 2 (high 3 ++ low 7 ++ high 4 ++ nine-turns))
-      ≡ steps-of-three ++ ascii "end 1 taken 19 skipped 8 leader 2 value 7\n"
+  pub three : textOf (input 3 2 (high 3 ++ low 7 ++ high 4 ++ nineTurns))
+      ≡ stepsOfThree ++ ascii "end 1 taken 19 skipped 8 leader 2 value 7\n"
   -- choices 0, 1, 0 are taken, then 0 is refused at capacity 1 and taken at capacity 2
   pub full : Prints (input 2 1 (high 5 ++ high 9 ++ (0 ∷ 1 ∷ 0 ∷ 0 ∷ [])))
       "1 0 0 1\n2 1 0 1\n3 0 1 2\nend 0 taken 3 skipped 1 leader - value -\n"

@@ -10,19 +10,17 @@ use lib.ListN.{length, getD}
 use Rattle.refusal.specs.declared.Refusal.{Refusal}
 use Rattle.refusal.specs.declared.Refusal.the-variants.{Count, Capacity, NoByte, UnknownKind, Cut}
 use Rattle.refusal.specs.declared.Answer.{Answer}
-use Rattle.refusal.specs.declared.Answer.the-variants as Answer
 use Rattle.refusal.specs.Numbered.{told}
+use Rattle.wire.specs.declared.Reading.the-variants.{Refused}
 use Rattle.ring.specs.Identities.{Distinct, firstRepeat}
 use Rattle.ring.proofs.Counting.{first-of}
 use Rattle.ring.proofs.Identity.{unrepeated-distinct, distinct-unrepeated}
-use Rattle.wire.specs.declared.Reading.the-variants.{Refused}
 use Rattle.words.specs.declared.Size.the-variants as Size
 use Rattle.words.specs.Layout.{mostProcesses, mostCapacity, tableLength}
 use Rattle.words.specs.Outcomes.{sizeOf, startOf}
 use Rattle.words.proofs.Ranges.{range-in, range-out, range-decided}
 use Rattle.words.proofs.GivenWhen.{InRange, exactly}
 use Rattle.trial.specs.declared.Asked.{Asked}
-use Rattle.trial.specs.declared.Asked.the-variants as Asked
 use Rattle.trial.specs.Input.{countIn, capacityIn, identityOf, framesFrom, identityAt, identitiesIn, askedOf}
 use Rattle.trial.specs.Report.{blank}
 use Rattle.trial.proofs.Asking.{

@@ -6,9 +6,9 @@ use mathlib.Core.Logic.{_⊎_, inl, inr, _↔_}
 use native.Mathlib.Decide.{decLe, decLt, ℕ-discrete}
 use native.Mathlib.Omega.{arith}
 use lib.ListN.{length, getD, take, drop}
+use Rattle.refusal.specs.declared.Refusal.the-variants.{NoByte, UnknownKind, Cut}
 use Rattle.gateway.specs.declared.Kind.the-variants.{Passive, Active}
 use Rattle.gateway.specs.Row.{msg}
-use Rattle.refusal.specs.declared.Refusal.the-variants.{NoByte, UnknownKind, Cut}
 use Rattle.wire.specs.declared.Order.{Order}
 use Rattle.wire.specs.declared.Order.the-variants.{High, Low}
 use Rattle.wire.specs.declared.Head.{Head}

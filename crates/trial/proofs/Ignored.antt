@@ -18,7 +18,6 @@ use Rattle.words.specs.Outcomes.{sizeOf, startOf}
 use Rattle.words.proofs.Blocks.{firsts-same}
 use Rattle.words.proofs.Ranges.{range-out}
 use Rattle.trial.specs.declared.Asked.{Asked}
-use Rattle.trial.specs.declared.Asked.the-variants as Asked
 use Rattle.trial.specs.Input.{
   headerLength,
   mostSchedule,

@@ -18,7 +18,6 @@ use Rattle.words.proofs.Blocks.{length-firsts}
 use Rattle.words.proofs.Ranges.{Within, Sized}
 use Rattle.words.proofs.ToldFor.{start-repeated, start-done}
 use Rattle.trial.specs.declared.Asked.{Asked}
-use Rattle.trial.specs.declared.Asked.the-variants as Asked
 use Rattle.trial.specs.Input.{identityAt, valueIn, identitiesIn, askedOf}
 use Rattle.trial.specs.Report.{blank}
 use Rattle.trial.proofs.Asking.{asked-ring}

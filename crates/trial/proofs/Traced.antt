@@ -5,19 +5,18 @@ use mathlib.Core.Bool.{Bool, true, false, true≢false, cond}
 use mathlib.Core.List.{List, [], _∷_}
 use mathlib.Core.Logic.{_⊎_, inl, inr, _↔_}
 use native.Mathlib.Omega.{arith}
-use borrow.Author.Tests.{eqb-true}
 use lib.ListN.{length, take}
 use lib.Dec.{eqb}
+use borrow.Author.Tests.{eqb-true}
 use Rattle.refusal.specs.declared.Answer.{Answer}
 use Rattle.refusal.specs.declared.Answer.the-variants.{Done, Refused}
 use Rattle.ring.specs.Runs.{endUsedUp, endOver, endSpent}
 use Rattle.words.specs.declared.Ran.{Ran}
-use Rattle.words.specs.declared.Ran.the-variants as Ran
 use Rattle.words.specs.Outcomes.{takenFor, stepOf, runOf, leadsOf, runTold}
 use Rattle.words.proofs.WhoLeads.{somebody}
 use Rattle.words.proofs.Ended.{ended-formed}
 use Rattle.words.proofs.StepByStep.{skippedFor, stepwise, run-by-steps}
-use Rattle.trial.specs.Trace.{Step, taken, traceOf}
+use Rattle.trial.specs.Trace.{Step, withStep, traceOf}
 
 -- one choice --
 
@@ -27,7 +26,7 @@ once Done = refl
 once (Refused x) = refl
 
 -- a taken one is a step more
-one-more : (a : Answer) (p : Step) (later : List Step) → length (taken a p later) ≡ takenFor a + length later
+one-more : (a : Answer) (p : Step) (later : List Step) → length (withStep a p later) ≡ takenFor a + length later
 one-more Done p later = omega arith
 one-more (Refused x) p later = omega arith
 

@@ -4,22 +4,19 @@ use mathlib.Core.Bool.{cond}
 use mathlib.Core.List.{List}
 use lib.ListN.{length, getD, take, drop}
 use lib.Dec.{ltb}
-use Rattle.gateway.specs.declared.Kind.the-variants.{Passive, Active}
 use Rattle.refusal.specs.declared.Refusal.the-variants.{NoByte, UnknownKind}
 use Rattle.refusal.specs.declared.Answer.{Answer}
-use Rattle.refusal.specs.declared.Answer.the-variants as Answer
+use Rattle.gateway.specs.declared.Kind.the-variants.{Passive, Active}
 use Rattle.wire.specs.declared.Head.{Head}
 use Rattle.wire.specs.declared.Head.the-variants.{Frame, NoHead}
 use Rattle.wire.specs.declared.Reading.{Reading}
 use Rattle.wire.specs.declared.Reading.the-variants.{Message, Refused}
 use Rattle.wire.specs.Frames.{frameLength, headOf, readOf}
 use Rattle.words.specs.declared.Size.{Size}
-use Rattle.words.specs.declared.Size.the-variants as Size
 use Rattle.words.specs.Layout.{mostProcesses}
 use Rattle.words.specs.Table.{firsts}
 use Rattle.words.specs.Outcomes.{sizeOf}
 use Rattle.trial.specs.declared.Asked.{Asked}
-use Rattle.trial.specs.declared.Asked.the-variants as Asked
 
 -- byte n, byte c
 abbrev pub headerLength : ℕ

@@ -3,14 +3,11 @@ use Prim.Native.Nat.{ℕ, _+_}
 use mathlib.Core.List.{List, _++_}
 use lib.ListN.{length, take, drop, replicate}
 use Rattle.refusal.specs.declared.Answer.{Answer}
-use Rattle.refusal.specs.declared.Answer.the-variants as Answer
 use Rattle.words.specs.declared.Ran.{Ran}
-use Rattle.words.specs.declared.Ran.the-variants as Ran
 use Rattle.words.specs.Layout.{mostProcesses, mostCapacity, tableLength}
 use Rattle.words.specs.Outcomes.{startOf, runOf, leadsOf}
 use Rattle.election.specs.Reaching.{mostMoves}
 use Rattle.trial.specs.declared.Asked.{Asked}
-use Rattle.trial.specs.declared.Asked.the-variants as Asked
 use Rattle.trial.specs.Input.{identitiesIn, scheduleIn, askedOf}
 use Rattle.trial.specs.Trace.{traceOf}
 use Rattle.trial.specs.Text.{refusedLine, stepLines, endLine}

@@ -31,17 +31,17 @@ abbrev pub decimal : ℕ → List ℕ
 decimal n = digitsIn n (n / 10) ++ (digit (n % 10) ∷ [])
 
 -- a word and a number
-abbrev pub field : String → ℕ → List ℕ
-field word n = ascii word ++ decimal n
+abbrev pub labelled : String → ℕ → List ℕ
+labelled word n = ascii word ++ decimal n
 
 -- `refused` and its number
 abbrev pub refusedLine : Refusal → List ℕ
-refusedLine x = field "refused " (numbered x .number) ++ ascii "\n"
+refusedLine x = labelled "refused " (numbered x .number) ++ ascii "\n"
 
 -- the step's number, process, state before, state after
 abbrev pub stepLine : ℕ → Step → List ℕ
 stepLine k s =
-    decimal k ++ field " " (s .process) ++ field " " (s .before) ++ field " " (s .after) ++ ascii "\n"
+    decimal k ++ labelled " " (s .process) ++ labelled " " (s .before) ++ labelled " " (s .after) ++ ascii "\n"
 
 -- a line for each step, numbered from k on
 abbrev pub stepLines : ℕ → List Step → List ℕ
@@ -50,10 +50,10 @@ stepLines k (s ∷ l) = stepLine k s ++ stepLines (k + 1) l
 
 -- the leading process and its value, `-` for both where none leads
 abbrev pub leaderPart : Leading → List ℕ
-leaderPart (Leader j v) = field " leader " j ++ field " value " v
+leaderPart (Leader j v) = labelled " leader " j ++ labelled " value " v
 leaderPart Nobody = ascii " leader - value -"
 leaderPart (Refused x) = ascii " leader - value -"
 
 -- the last line: end, taken, skipped, leading process and its value
 abbrev pub endLine : ℕ → ℕ → ℕ → Leading → List ℕ
-endLine e k s who = field "end " e ++ field " taken " k ++ field " skipped " s ++ leaderPart who ++ ascii "\n"
+endLine e k s who = labelled "end " e ++ labelled " taken " k ++ labelled " skipped " s ++ leaderPart who ++ ascii "\n"

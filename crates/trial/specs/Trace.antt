@@ -23,11 +23,11 @@ abbrev pub stepFrom : List ℕ → List ℕ → ℕ → Step
 stepFrom t t′ j = record { process = j; before = stateWord t j; after = stateWord t′ j }
 
 -- a refused choice is no step
-abbrev pub taken : Answer → Step → List Step → List Step
-taken Done s later = s ∷ later
-taken (Refused x) s later = later
+abbrev pub withStep : Answer → Step → List Step → List Step
+withStep Done s later = s ∷ later
+withStep (Refused x) s later = later
 
 -- the steps taken of these choices, each on the table that the one before has left
 unfoldable pub traceOf : List ℕ → List ℕ → List Step
 traceOf t [] = []
-traceOf t (j ∷ js) = let o = stepOf t j in taken (o .0) (stepFrom t (o .1) j) (traceOf (o .1) js)
+traceOf t (j ∷ js) = let o = stepOf t j in withStep (o .0) (stepFrom t (o .1) j) (traceOf (o .1) js)

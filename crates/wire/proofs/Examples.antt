@@ -3,10 +3,10 @@ use Prim.Native.Nat.{ℕ}
 use mathlib.Core.Path.{_≡_, refl, ap}
 use mathlib.Core.List.{List, [], _∷_}
 use native.Mathlib.Omega.{arith}
-use Rattle.gateway.specs.declared.Kind.the-variants.{Passive, Active}
-use Rattle.gateway.specs.Row.{msg}
 use Rattle.refusal.specs.declared.Told.{Told}
 use Rattle.refusal.specs.Numbered.{tell, told}
+use Rattle.gateway.specs.declared.Kind.the-variants.{Passive, Active}
+use Rattle.gateway.specs.Row.{msg}
 use Rattle.wire.specs.declared.Reading.the-variants.{Message}
 use Rattle.wire.specs.declared.ReadTold.{ReadTold}
 use Rattle.wire.specs.Frames.{readOf, writeOf, readTold}

@@ -7,16 +7,16 @@ use mathlib.Core.Logic.{_⊎_, inl, inr, _↔_}
 use native.Mathlib.Decide.{decLe, decLt}
 use native.Mathlib.Omega.{arith}
 use lib.ListN.{length, getD}
-use Rattle.gateway.specs.declared.Kind.{Kind}
-use Rattle.gateway.specs.declared.Kind.the-variants.{Passive, Active}
-use Rattle.gateway.specs.Row.{msg}
-use Rattle.gateway.specs.Numbers.{kindOf}
-use Rattle.gateway.specs.declared.Msg.{Msg}
 use Rattle.refusal.specs.declared.Refusal.the-variants.{NoByte, UnknownKind, Cut, NoRoom, NoFrame}
 use Rattle.refusal.specs.declared.Answer.{Answer}
 use Rattle.refusal.specs.declared.Answer.the-variants.{Done}
 use Rattle.refusal.specs.declared.Told.{Told}
 use Rattle.refusal.specs.Numbered.{told}
+use Rattle.gateway.specs.declared.Kind.{Kind}
+use Rattle.gateway.specs.declared.Kind.the-variants.{Passive, Active}
+use Rattle.gateway.specs.Row.{msg}
+use Rattle.gateway.specs.Numbers.{kindOf}
+use Rattle.gateway.specs.declared.Msg.{Msg}
 use Rattle.wire.specs.declared.Order.{Order}
 use Rattle.wire.specs.declared.Order.the-variants.{High, Low}
 use Rattle.wire.specs.declared.Head.{Head}
@@ -131,7 +131,7 @@ module _ (s : List ℕ) where
   by-head : (h : Head) → 1 ≤ length s → headOf (getD s 0 0) ≡ h → Reads s (readTold (readOf s))
   by-head NoHead l q =
       reads-as (read-unknown s (λ e. omega arith) q)
-      (reads-unknown l (λ k. let n = known-named (getD s 0 0) k in true≢false (cc)))
+      (reads-unknown l (λ k. let n = known-named (getD s 0 0) k in true≢false cc))
   by-head (Frame o k) l q = by-length (decLt (length s) 5)
     where
       known : Known (getD s 0 0)

@@ -6,8 +6,8 @@ use mathlib.Core.List.{List, [], _∷_}
 use mathlib.Core.Option.{none, some}
 use native.Mathlib.Decide.{decLe}
 use native.Mathlib.Omega.{arith}
-use borrow.Author.Tests.{eqb-true, ne-eqb, lt-ltb, le-ltb}
 use lib.Dec.{eqb}
+use borrow.Author.Tests.{eqb-true, ne-eqb, lt-ltb, le-ltb}
 use Rattle.gateway.specs.declared.Kind.{Kind}
 use Rattle.gateway.specs.declared.Kind.the-variants.{Passive, Active}
 use Rattle.gateway.specs.Numbers.{kindNumber, lastKind, kindOf}
@@ -28,12 +28,12 @@ head-back Low Passive = refl
 among-byte : (hs : List (Order × Kind)) (b : ℕ) (o : Order) (k : Kind) →
     headAmong hs b ≡ Frame o k → b ≡ kindByte o k
 among-byte [] b o k e = cc
-among-byte (h ∷ hs) b o k e = byTest (λ f. among-byte hs b o k f) (eqb b (kindByte (h .0) (h .1))) refl e
+among-byte (h ∷ hs) b o k e = by-test (λ f. among-byte hs b o k f) (eqb b (kindByte (h .0) (h .1))) refl e
   where
-    byTest : (headAmong hs b ≡ Frame o k → b ≡ kindByte o k) → (t : Bool) → eqb b (kindByte (h .0) (h .1)) ≡ t →
+    by-test : (headAmong hs b ≡ Frame o k → b ≡ kindByte o k) → (t : Bool) → eqb b (kindByte (h .0) (h .1)) ≡ t →
         cond t (Frame (h .0) (h .1)) (headAmong hs b) ≡ Frame o k → b ≡ kindByte o k
-    byTest more true q f = let x : h .0 ≡ o = cc in let y : h .1 ≡ k = cc in rw (← x, ← y) (eqb-true _ _ q)
-    byTest more false q f = more f
+    by-test more true q f = let x : h .0 ≡ o = cc in let y : h .1 ≡ k = cc in rw (← x, ← y) (eqb-true _ _ q)
+    by-test more false q f = more f
 
 -- a byte that names an order and a kind is theirs
 pub head-byte : (b : ℕ) (o : Order) (k : Kind) → headOf b ≡ Frame o k → b ≡ kindByte o k

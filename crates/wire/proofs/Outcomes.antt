@@ -3,13 +3,13 @@ use Prim.Native.Nat.{ℕ, _≤_, _<_}
 use mathlib.Core.Path.{_≡_, refl, sym}
 use mathlib.Core.List.{List, [], _∷_, _++_}
 use native.Mathlib.Omega.{arith}
-use borrow.Author.Tests.{lt-ltb, le-ltb}
 use lib.ListN.{length, getD, drop}
-use Rattle.gateway.specs.declared.Kind.{Kind}
-use Rattle.gateway.specs.Row.{msg}
+use borrow.Author.Tests.{lt-ltb, le-ltb}
 use Rattle.refusal.specs.declared.Refusal.the-variants.{NoByte, UnknownKind, Cut, NoRoom, NoFrame}
 use Rattle.refusal.specs.declared.Answer.{Answer}
 use Rattle.refusal.specs.declared.Answer.the-variants.{Done}
+use Rattle.gateway.specs.declared.Kind.{Kind}
+use Rattle.gateway.specs.Row.{msg}
 use Rattle.wire.specs.declared.Order.{Order}
 use Rattle.wire.specs.declared.Head.the-variants.{Frame, NoHead}
 use Rattle.wire.specs.declared.Reading.the-variants.{Message, Refused}

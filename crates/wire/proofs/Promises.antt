@@ -5,20 +5,20 @@ use mathlib.Core.Bool.{Bool, true, false, cond}
 use mathlib.Core.List.{List, [], _∷_, _++_, append-assoc}
 use mathlib.Core.Option.{some}
 use native.Mathlib.Omega.{arith}
-use borrow.Author.Tests.{le-ltb}
 use lib.Dec.{ltb}
 use lib.ListN.{length, getD, take, drop, length-append}
 use lib.Seq.{take-at, drop-at, take-append-le}
-use Rattle.gateway.specs.declared.Kind.{Kind}
-use Rattle.gateway.specs.declared.Msg.{Msg}
-use Rattle.gateway.specs.Row.{msg}
-use Rattle.gateway.specs.Numbers.{kindNumber}
-use Rattle.gateway.proofs.Numbering.{kind-apart}
+use borrow.Author.Tests.{le-ltb}
 use Rattle.refusal.specs.declared.Refusal.{Refusal}
 use Rattle.refusal.specs.declared.Refusal.the-variants.{NoRoom}
 use Rattle.refusal.specs.declared.Answer.{Answer}
 use Rattle.refusal.specs.declared.Answer.the-variants.{Done}
 use Rattle.refusal.proofs.Apart.{numbers-apart, numbered-never-zero}
+use Rattle.gateway.specs.declared.Kind.{Kind}
+use Rattle.gateway.specs.declared.Msg.{Msg}
+use Rattle.gateway.specs.Row.{msg}
+use Rattle.gateway.specs.Numbers.{kindNumber}
+use Rattle.gateway.proofs.Numbering.{kind-apart}
 use Rattle.wire.specs.declared.Order.{Order}
 use Rattle.wire.specs.declared.Head.{Head}
 use Rattle.wire.specs.declared.Head.the-variants.{Frame, NoHead}
@@ -143,17 +143,17 @@ rest-ignored s more m e = five-enough s more (read-begins s m e .whole) ∙ e
 -- a refusal to write changes no byte
 pub refusal-writes-nothing : (out : List ℕ) (g n v : ℕ) (r : Refusal) →
     writeOf out g n v .0 ≡ Answer.Refused r → writeOf out g n v .1 ≡ out
-refusal-writes-nothing out g n v r e = byHead (headFor g n) e
+refusal-writes-nothing out g n v r e = by-head (headFor g n) e
   where
-    byRoom : (t : Bool) (l : List ℕ) →
+    by-room : (t : Bool) (l : List ℕ) →
         cond {A = Answer × List ℕ} t (Answer.Refused NoRoom, out) (Done, l) .0 ≡ Answer.Refused r →
         cond {A = Answer × List ℕ} t (Answer.Refused NoRoom, out) (Done, l) .1 ≡ out
-    byRoom true l f = refl
-    byRoom false l f = cc
+    by-room true l f = refl
+    by-room false l f = cc
 
-    byHead : (h : Head) → writeAs h out v .0 ≡ Answer.Refused r → writeAs h out v .1 ≡ out
-    byHead NoHead f = refl
-    byHead (Frame o k) f = byRoom (ltb (length out) (frameLength k)) _ f
+    by-head : (h : Head) → writeAs h out v .0 ≡ Answer.Refused r → writeAs h out v .1 ≡ out
+    by-head NoHead f = refl
+    by-head (Frame o k) f = by-room (ltb (length out) (frameLength k)) _ f
 
 -- document 01's numbers tell any two readings apart
 pub read-told-apart : (a b : Reading) → readTold a ≡ readTold b → a ≡ b

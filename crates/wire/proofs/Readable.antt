@@ -4,14 +4,14 @@ use mathlib.Core.Path.{_≡_, refl, subst}
 use mathlib.Core.Bool.{Bool, true, false, true≢false, cond}
 use mathlib.Core.List.{List, [], _∷_}
 use native.Mathlib.Omega.{arith}
-use borrow.Author.Tests.{le-ltb, ltb-false}
 use lib.Dec.{ltb}
 use lib.ListN.{length, getD, take, drop, length-drop}
 use lib.Seq.{length-take-le}
+use borrow.Author.Tests.{le-ltb, ltb-false}
+use Rattle.refusal.specs.declared.Refusal.{Refusal}
 use Rattle.gateway.specs.declared.Kind.{Kind}
 use Rattle.gateway.specs.declared.Msg.{Msg}
 use Rattle.gateway.specs.Row.{msg}
-use Rattle.refusal.specs.declared.Refusal.{Refusal}
 use Rattle.wire.specs.declared.Order.{Order}
 use Rattle.wire.specs.declared.Head.{Head}
 use Rattle.wire.specs.declared.Head.the-variants.{Frame, NoHead}
@@ -36,20 +36,20 @@ begins-read (b ∷ l) m f =
 
 -- and nothing else does
 pub read-begins : (s : List ℕ) (m : Msg) → readOf s ≡ Message m → Begins s m
-read-begins [] m e = absurd (true≢false (cc))
-read-begins (b ∷ l) m e = byHead (headOf b) refl e
+read-begins [] m e = absurd (true≢false cc)
+read-begins (b ∷ l) m e = by-head (headOf b) refl e
   where
-    byLength : (o : Order) (k : Kind) (r : Refusal) (t : Bool) →
+    by-length : (o : Order) (k : Kind) (r : Refusal) (t : Bool) →
         headOf b ≡ Frame o k → ltb (length (b ∷ l)) (frameLength k) ≡ t →
         cond t (Refused r) (Message (msg (valueOf o (bodyOf k (b ∷ l))) k)) ≡ Message m → Begins (b ∷ l) m
-    byLength o k r true q t f = absurd (true≢false (cc))
-    byLength o k r false q t f =
+    by-length o k r true q t f = absurd (true≢false cc)
+    by-length o k r false q t f =
         let z : msg (valueOf o (bodyOf k (b ∷ l))) k ≡ m = cc in
         subst (Begins (b ∷ l)) z (record { order = o; named = q; whole = ltb-false _ _ t; body = refl })
 
-    byHead : (h : Head) → headOf b ≡ h → readAs h (b ∷ l) ≡ Message m → Begins (b ∷ l) m
-    byHead NoHead q f = absurd (true≢false (cc))
-    byHead (Frame o k) q f = byLength o k _ (ltb (length (b ∷ l)) (frameLength k)) q refl f
+    by-head : (h : Head) → headOf b ≡ h → readAs h (b ∷ l) ≡ Message m → Begins (b ∷ l) m
+    by-head NoHead q f = absurd (true≢false cc)
+    by-head (Frame o k) q f = by-length o k _ (ltb (length (b ∷ l)) (frameLength k)) q refl f
 
 -- where s is of bytes, so is the body, and it has the length that the kind fixes
 begins-body : (s : List ℕ) (m : Msg) → AllBytes s → Begins s m →

@@ -5,15 +5,15 @@ use mathlib.Core.List.{List, [], _∷_, _++_}
 use mathlib.Core.Option.{Option, none, some}
 use lib.ListN.{length, take, drop}
 use lib.Dec.{eqb, ltb}
+use Rattle.refusal.specs.declared.Refusal.the-variants.{NoByte, UnknownKind, Cut, NoRoom, NoFrame}
+use Rattle.refusal.specs.declared.Answer.{Answer}
+use Rattle.refusal.specs.declared.Answer.the-variants.{Done}
+use Rattle.refusal.specs.Numbered.{numbered}
 use Rattle.gateway.specs.declared.Kind.{Kind}
 use Rattle.gateway.specs.declared.Kind.the-variants.{Passive, Active}
 use Rattle.gateway.specs.declared.Msg.{Msg}
 use Rattle.gateway.specs.Row.{msg}
 use Rattle.gateway.specs.Numbers.{kindNumber, lastKind, kindOf}
-use Rattle.refusal.specs.declared.Refusal.the-variants.{NoByte, UnknownKind, Cut, NoRoom, NoFrame}
-use Rattle.refusal.specs.declared.Answer.{Answer}
-use Rattle.refusal.specs.declared.Answer.the-variants.{Done}
-use Rattle.refusal.specs.Numbered.{numbered}
 use Rattle.wire.specs.declared.Order.{Order}
 use Rattle.wire.specs.declared.Order.the-variants.{High, Low}
 use Rattle.wire.specs.declared.Head.{Head}

@@ -15,7 +15,6 @@ use Rattle.ring.specs.Runs.{Run}
 use Rattle.ring.specs.Gateways.{gateways, hasLeader, running}
 use Rattle.ring.proofs.Running.{taken-within, counts-within}
 use Rattle.words.specs.declared.Ran.{Ran}
-use Rattle.words.specs.declared.Ran.the-variants as Ran
 use Rattle.words.specs.Table.{countOf, capacityOf, ringOf}
 use Rattle.words.specs.WellFormed.{wellFormed}
 use Rattle.words.specs.Outcomes.{rewritten, stepped, stepOf, ran, runOf, runTold}

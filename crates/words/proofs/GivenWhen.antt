@@ -8,11 +8,11 @@ use native.Mathlib.Decide.{decLt}
 use native.Mathlib.Omega.{arith}
 use lib.ListN.{length, getD}
 use lib.Dec.{ltb}
-use Rattle.gateway.specs.declared.Proc.{Proc}
-use Rattle.gateway.specs.declared.Msg.{Msg}
 use Rattle.refusal.specs.declared.Refusal.the-variants.{Malformed}
 use Rattle.refusal.specs.declared.Told.{Told}
 use Rattle.refusal.specs.Numbered.{tell, told}
+use Rattle.gateway.specs.declared.Proc.{Proc}
+use Rattle.gateway.specs.declared.Msg.{Msg}
 use Rattle.ring.specs.Ring.{prev, queueOf, CanMove}
 use Rattle.ring.specs.Runs.{Run}
 use Rattle.ring.specs.Identities.{identOf, Distinct, firstRepeat}

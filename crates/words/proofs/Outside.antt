@@ -4,10 +4,10 @@ use mathlib.Core.Path.{_≡_, refl, sym, ap}
 use mathlib.Core.Bool.{Bool, true, false, cond, not}
 use mathlib.Core.List.{List, _++_, append-assoc}
 use native.Mathlib.Omega.{arith}
-use borrow.Author.Tests.{le-leb, le-ltb}
 use lib.ListN.{length, drop, length-append, length-drop, List·getD-append}
 use lib.Seq.{take-append-le, drop-append-le}
 use lib.Dec.{ltb}
+use borrow.Author.Tests.{le-leb, le-ltb}
 use Rattle.refusal.specs.declared.Refusal.the-variants.{Count, Capacity, Repeated, Malformed}
 use Rattle.refusal.specs.declared.Answer.the-variants.{Done, Refused}
 use Rattle.gateway.specs.declared.Proc.{Proc}
@@ -18,7 +18,6 @@ use Rattle.ring.specs.Identities.{isFresh, firstRepeat}
 use Rattle.ring.specs.Gateways.{gateways, started, running}
 use Rattle.ring.proofs.Scans.{all-same}
 use Rattle.words.specs.declared.Ran.{Ran}
-use Rattle.words.specs.declared.Ran.the-variants as Ran
 use Rattle.words.specs.Layout.{mostProcesses, mostCapacity, recordWidth, recordPlace, tableLength}
 use Rattle.words.specs.Table.{
   tableWords,
@@ -41,8 +40,8 @@ abbrev pub Holds : List ℕ → Type 0
 Holds t = tableLength (countOf t) (capacityOf t) ≤ length t
 
 -- an outcome with more words behind
-abbrev pub with-more : {A : Type 0} → A × List ℕ → List ℕ → A × List ℕ
-with-more o more = (o .0, o .1 ++ more)
+abbrev pub withMore : {A : Type 0} → A × List ℕ → List ℕ → A × List ℕ
+withMore o more = (o .0, o .1 ++ more)
 
 module _ (t more : List ℕ) (h : Holds t) where
   count-same : countOf (t ++ more) ≡ countOf t
@@ -99,7 +98,7 @@ module _ (t more : List ℕ) (h : Holds t) where
       (sym (append-assoc (tableWords (countOf t) (capacityOf t) R) (restOf t) more))
 
   -- a step
-  pub step-beyond : (j : ℕ) → stepOf (t ++ more) j ≡ with-more (stepOf t j) more
+  pub step-beyond : (j : ℕ) → stepOf (t ++ more) j ≡ withMore (stepOf t j) more
   unfolding stepOf
   step-beyond j =
       rw (formed-same, count-same, capacity-same, ring-same)
@@ -107,14 +106,14 @@ module _ (t more : List ℕ) (h : Holds t) where
     where
       go : (b : Bool) (o : Out Proc Msg) →
           cond b (stepped (t ++ more) o) (Refused Malformed, t ++ more)
-          ≡ with-more (cond b (stepped t o) (Refused Malformed, t)) more
+          ≡ withMore (cond b (stepped t o) (Refused Malformed, t)) more
       go false o = refl
       go true (refused x) = refl
       go true (made R) = rw (rewritten-more R)
 
   -- a run
   pub run-beyond : (schedule : List ℕ) (budget : ℕ) →
-      runOf (t ++ more) schedule budget ≡ with-more (runOf t schedule budget) more
+      runOf (t ++ more) schedule budget ≡ withMore (runOf t schedule budget) more
   unfolding runOf
   run-beyond schedule budget =
       rw (formed-same, same) (go (wellFormed t) (running (countOf t) (capacityOf t) schedule (ringOf t) budget 0 0))
@@ -125,7 +124,7 @@ module _ (t more : List ℕ) (h : Holds t) where
 
       go : (b : Bool) (r : Run Proc Msg) →
           cond b (ran (t ++ more) r) (Ran.Refused Malformed, t ++ more)
-          ≡ with-more (cond b (ran t r) (Ran.Refused Malformed, t)) more
+          ≡ withMore (cond b (ran t r) (Ran.Refused Malformed, t)) more
       go false r = refl
       go true r = rw (rewritten-more (r .ring))
 
@@ -136,7 +135,7 @@ module _ (t more : List ℕ) (h : Holds t) where
 
 -- a start, whose table is as long as its identities and capacity say
 pub start-beyond : (t more ids : List ℕ) (c : ℕ) → tableLength (length ids) c ≤ length t →
-    startOf (t ++ more) ids c ≡ with-more (startOf t ids c) more
+    startOf (t ++ more) ids c ≡ withMore (startOf t ids c) more
 unfolding startOf
 start-beyond t more ids c h =
     let n = length ids in
@@ -153,7 +152,7 @@ start-beyond t more ids c h =
         cond a (Refused Count, t ++ more)
         (cond b (Refused Capacity, t ++ more)
         (cond d (Refused (Repeated (firstRepeat ids)), t ++ more) (Done, words ++ (rest ++ more))))
-        ≡ with-more
+        ≡ withMore
         (cond a (Refused Count, t)
         (cond b (Refused Capacity, t) (cond d (Refused (Repeated (firstRepeat ids)), t) (Done, words ++ rest))))
         more

@@ -3,8 +3,8 @@ use Prim.Native.Nat.{ℕ, _≤_}
 use mathlib.Core.Path.{_≡_, refl}
 use mathlib.Core.Bool.{Bool, true, false, _&&_}
 use native.Mathlib.Decide.{decLe}
-use borrow.Author.Tests.{leb-true, le-leb}
 use lib.Dec.{leb}
+use borrow.Author.Tests.{leb-true, le-leb}
 use Rattle.ring.proofs.Tests.{and-left, and-right}
 use Rattle.words.specs.Layout.{mostProcesses, mostCapacity}
 use Rattle.words.specs.WellFormed.{inRange}

@@ -6,9 +6,9 @@ use mathlib.Core.Bool.{true, _&&_}
 use mathlib.Core.List.{List, [], _∷_}
 use native.Mathlib.Nat.{not-suc-le-zero, le-of-suc-le-suc}
 use native.Mathlib.Omega.{arith}
-use borrow.Author.Tests.{leb-true, eqb-true, le-leb, le-ltb, lt-ltb}
 use lib.ListN.{length, getD, drop}
 use lib.Dec.{eqb, leb·suc-suc}
+use borrow.Author.Tests.{leb-true, eqb-true, le-leb, le-ltb, lt-ltb}
 use Rattle.gateway.specs.declared.Proc.{Proc}
 use Rattle.gateway.specs.declared.Msg.{Msg}
 use Rattle.gateway.specs.Numbers.{stateNumber, lastState, kindNumber, lastKind}

@@ -17,7 +17,6 @@ use Rattle.ring.specs.Identities.{firstRepeat}
 use Rattle.ring.specs.Gateways.{gateways, running}
 use Rattle.ring.proofs.Tests.{either}
 use Rattle.words.specs.declared.Ran.{Ran}
-use Rattle.words.specs.declared.Ran.the-variants as Ran
 use Rattle.words.specs.Layout.{mostProcesses, mostCapacity, tableLength}
 use Rattle.words.specs.Table.{countOf, capacityOf, ringOf}
 use Rattle.words.specs.WellFormed.{inRange, wellFormed}

@@ -3,9 +3,9 @@ use Prim.Native.Nat.{ℕ}
 use mathlib.Core.Path.{_≡_, refl, sym}
 use mathlib.Core.Bool.{Bool, true, false, cond, not}
 use mathlib.Core.List.{List, _++_}
-use borrow.Author.Tests.{ltb-false, not-false}
 use lib.ListN.{length, drop}
 use lib.Dec.{ltb}
+use borrow.Author.Tests.{ltb-false, not-false}
 use Rattle.refusal.specs.declared.Refusal.{Refusal}
 use Rattle.refusal.specs.declared.Refusal.the-variants.{Count, Capacity, Short, Repeated}
 use Rattle.refusal.specs.declared.Answer.{Answer}

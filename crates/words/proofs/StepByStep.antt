@@ -13,7 +13,6 @@ use Rattle.ring.specs.Ring.{Ring, Out, refused, made, move, ringAfter, takenBy,
 use Rattle.ring.specs.Runs.{Run, ends, endUsedUp, endOver, endSpent, runFrom}
 use Rattle.ring.specs.Gateways.{gateways, hasLeader}
 use Rattle.words.specs.declared.Ran.{Ran}
-use Rattle.words.specs.declared.Ran.the-variants as Ran
 use Rattle.words.specs.Table.{countOf, capacityOf, ringOf}
 use Rattle.words.specs.WellFormed.{wellFormed}
 use Rattle.words.specs.Outcomes.{rewritten, stepped, takenFor, stepOf, ran, runOf, leadsOf}

@@ -4,10 +4,8 @@ use native.Mathlib.Omega.{arith}
 use Rattle.refusal.proofs.Apart.{numbers-apart, numbered-never-zero}
 use Rattle.words.specs.declared.Ran.{Ran}
 use Rattle.words.specs.declared.Ran.the-variants.{Ended}
-use Rattle.words.specs.declared.Ran.the-variants as Ran
 use Rattle.words.specs.declared.Leading.{Leading}
 use Rattle.words.specs.declared.Leading.the-variants.{Leader, Nobody}
-use Rattle.words.specs.declared.Leading.the-variants as Leading
 use Rattle.words.specs.Outcomes.{RunTold, runTold, LeadTold, leadTold}
 
 pub run-told-apart : (a b : Ran) → runTold a ≡ runTold b → a ≡ b

@@ -4,11 +4,11 @@ use mathlib.Core.Path.{_≡_}
 use mathlib.Core.Bool.{true, false}
 use mathlib.Core.List.{List, [], _∷_}
 use native.Mathlib.Omega.{arith}
-use borrow.Author.Tests.{lt-ltb, le-ltb}
 use lib.ListN.{length}
+use borrow.Author.Tests.{lt-ltb, le-ltb}
+use Rattle.refusal.specs.Numbered.{tell, told}
 use Rattle.gateway.specs.declared.Proc.{Proc}
 use Rattle.gateway.specs.declared.Msg.{Msg}
-use Rattle.refusal.specs.Numbered.{tell, told}
 use Rattle.ring.specs.Ring.{Out, made, prev, queueOf, move, CanMove}
 use Rattle.ring.specs.Identities.{Distinct, firstRepeat}
 use Rattle.ring.specs.Gateways.{gateways, procAt}

@@ -4,13 +4,12 @@ use mathlib.Core.Path.{_≡_, refl, sym, ap, subst, _∙_}
 use mathlib.Core.Bool.{Bool, true, false, cond}
 use mathlib.Core.List.{List}
 use mathlib.Core.Logic.{_⊎_, inl, inr}
-use borrow.Author.Tests.{ltb-true, lt-ltb}
 use lib.Dec.{ltb}
+use borrow.Author.Tests.{ltb-true, lt-ltb}
 use Rattle.gateway.specs.declared.State.the-variants.{Leads}
 use Rattle.ring.specs.Gateways.{procAt, hasLeader, leaderOf}
 use Rattle.ring.proofs.Leaders.{leader-leads, leader-found}
 use Rattle.words.specs.declared.Leading.{Leading}
-use Rattle.words.specs.declared.Leading.the-variants as Leading
 use Rattle.words.specs.Table.{countOf, ringOf}
 use Rattle.words.specs.WellFormed.{wellFormed}
 use Rattle.words.specs.Outcomes.{led, leadsOf, LeadTold, leadTold}

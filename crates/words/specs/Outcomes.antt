@@ -15,11 +15,8 @@ use Rattle.ring.specs.Runs.{Run}
 use Rattle.ring.specs.Identities.{firstRepeat}
 use Rattle.ring.specs.Gateways.{gateways, procAt, started, leaderOf, running}
 use Rattle.words.specs.declared.Size.{Size}
-use Rattle.words.specs.declared.Size.the-variants as Size
 use Rattle.words.specs.declared.Ran.{Ran}
-use Rattle.words.specs.declared.Ran.the-variants as Ran
 use Rattle.words.specs.declared.Leading.{Leading}
-use Rattle.words.specs.declared.Leading.the-variants as Leading
 use Rattle.words.specs.Layout.{mostProcesses, mostCapacity, tableLength}
 use Rattle.words.specs.Table.{tableWords, countOf, capacityOf, restOf, ringOf}
 use Rattle.words.specs.WellFormed.{inRange, wellFormed}

@@ -1,7 +1,7 @@
 -- `bench::main` reads, asks for the text and writes it. Assumes nothing but what is assumed of reading and writing.
 use mathlib.Core.Path.{sym}
-use borrow.Author.Needs.{needs}
 use lib.Seq.{length-take-le}
+use borrow.Author.Needs.{needs}
 use Rattle.report.proofs.Texts.{text-inside}
 use Rattle.bench.proofs.main.Statement.{statement}
 use Rattle.bench.proofs.main.Tie as tie

@@ -1,9 +1,9 @@
 -- `frame::read` answers what its bytes read as. Assumes nothing.
 use mathlib.Core.Path.{sym, ap, _∙_}
 use native.Mathlib.Omega.{arith}
+use lib.ListN.{take}
 use borrow.Author.Needs.{needs}
 use borrow.Rule.Slice.PartAt.{part-to-end}
-use lib.ListN.{take}
 use Rattle.wire.specs.Bytes.{wordBytes, valueOf}
 use Rattle.wire.proofs.Outcomes.{read-unknown, read-whole}
 use Rattle.frame.proofs.read.Statement.{statement}

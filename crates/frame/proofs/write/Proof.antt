@@ -3,12 +3,12 @@ use Prim.Native.Nat.{_+_, _-_}
 use mathlib.Core.Path.{sym, ap, _∙_}
 use mathlib.Core.List.{_∷_, _++_}
 use native.Mathlib.Omega.{arith}
+use lib.ListN.{length, drop, set, length-set, length-take, length-drop}
 use borrow.Author.Needs.{needs}
 use borrow.Rule.Slice.PartMut.{same-len-mid}
-use lib.ListN.{length, drop, set, length-set, length-take, length-drop}
 use Rattle.wire.specs.Bytes.{wordBytes, field}
-use Rattle.frame.proofs.Bodies.{rest-put}
 use Rattle.wire.proofs.Outcomes.{write-no-frame, write-no-room, write-whole}
+use Rattle.frame.proofs.Bodies.{rest-put}
 use Rattle.frame.proofs.write.Statement.{statement}
 use Rattle.frame.proofs.write.Tie as tie
 

@@ -1,7 +1,7 @@
 -- `frame_run::read_of` is safe. Assumes nothing.
 use mathlib.Core.Path.{sym}
-use borrow.Author.Needs.{needs}
 use lib.Seq.{length-take-le}
+use borrow.Author.Needs.{needs}
 use Rattle.frame_run.proofs.read_of.Statement.{statement}
 use Rattle.frame_run.proofs.read_of.Tie as tie
 

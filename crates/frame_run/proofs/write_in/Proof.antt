@@ -1,7 +1,7 @@
 -- `frame_run::write_in` is safe. Assumes nothing.
 use mathlib.Core.Path.{sym}
-use borrow.Author.Needs.{needs}
 use lib.Seq.{length-take-le}
+use borrow.Author.Needs.{needs}
 use Rattle.frame_run.proofs.write_in.Statement.{statement}
 use Rattle.frame_run.proofs.write_in.Tie as tie
 

@@ -1,8 +1,8 @@
 -- `report::ring` puts the text of a ring that is asked for. Assumes nothing.
 use mathlib.Core.Path.{refl, ap, _∙_}
 use native.Mathlib.Omega.{arith}
-use borrow.Author.Needs.{needs}
 use lib.ListN.{replicate}
+use borrow.Author.Needs.{needs}
 use Rattle.report.specs.Inside.{wrote}
 use Rattle.report.proofs.Starting.{
   schedule-few,

@@ -3,8 +3,8 @@ use Prim.Native.Nat.{ℕ, _/_, _%_, _^_}
 use mathlib.Core.Path.{_≡_, refl}
 use mathlib.Core.Bool.{true, false≢true}
 use native.Mathlib.Omega.{arith}
-use borrow.Author.Needs.{needs}
 use lib.Dec.{eqb}
+use borrow.Author.Needs.{needs}
 use Rattle.gateway.specs.declared.State.{State}
 use Rattle.gateway.specs.declared.State.the-variants.{Sends, Listens, Compares, Decides, Relays, Carries, Leads}
 use Rattle.gateway.specs.declared.Proc.{Proc}

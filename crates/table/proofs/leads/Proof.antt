@@ -2,9 +2,9 @@
 use mathlib.Core.Path.{sym, _∙_}
 use native.Mathlib.Omega.{arith}
 use borrow.Author.Tests.{not-true, not-false}
+use borrow.Author.Needs.{needs}
 use Rattle.table.proofs.Moves.{within, read-is}
 use Rattle.table.proofs.Answers.{head-there, formed-here, leads-malformed, leads-nobody, leads-told}
-use borrow.Author.Needs.{needs}
 use Rattle.table.proofs.leads.Statement.{statement}
 use Rattle.table.proofs.leads.Tie as tie
 

@@ -2,8 +2,8 @@
 use mathlib.Core.Path.{sym, _∙_}
 use native.Mathlib.Omega.{arith}
 use borrow.Author.Tests.{not-true, not-false}
-use Rattle.table.proofs.Answers.{head-there, formed-here, step-malformed, step-told}
 use borrow.Author.Needs.{needs}
+use Rattle.table.proofs.Answers.{head-there, formed-here, step-malformed, step-told}
 use Rattle.table.proofs.step.Statement.{statement}
 use Rattle.table.proofs.step.Tie as tie
 

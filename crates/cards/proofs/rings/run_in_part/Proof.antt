@@ -1,7 +1,7 @@
 -- `cards::rings::run_in_part` is safe. Assumes nothing.
 use mathlib.Core.Path.{sym}
-use borrow.Author.Needs.{needs}
 use lib.Seq.{length-take-le}
+use borrow.Author.Needs.{needs}
 use Rattle.cards.proofs.rings.run_in_part.Statement.{statement}
 use Rattle.cards.proofs.rings.run_in_part.Tie as tie
 

@@ -1,8 +1,8 @@
 -- `cards::starts::changed` is safe and ends: it counts no more words than it has passed, and each turn leaves a word
 -- fewer. Assumes nothing.
 use Prim.Native.Nat.{_-_, _≤_}
-use native.Mathlib.Omega.{arith}
 use mathlib.Core.Logic.{⊎-elim}
+use native.Mathlib.Omega.{arith}
 use Rattle.cards.proofs.starts.changed.Statement.{statement}
 use Rattle.cards.proofs.starts.changed.Tie as tie
 

@@ -1,7 +1,7 @@
 -- `cards::starts::start_of` is safe. Assumes nothing.
 use mathlib.Core.Path.{sym}
-use borrow.Author.Needs.{needs}
 use lib.Seq.{length-take-le}
+use borrow.Author.Needs.{needs}
 use Rattle.cards.proofs.starts.start_of.Statement.{statement}
 use Rattle.cards.proofs.starts.start_of.Tie as tie
 

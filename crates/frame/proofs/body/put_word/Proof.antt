@@ -1,7 +1,7 @@
 -- `frame::body::put_word` puts the field of a value in front of what stood behind it. Assumes nothing.
 use native.Mathlib.Omega.{arith}
-use borrow.Author.Needs.{needs}
 use lib.ListN.{length-set}
+use borrow.Author.Needs.{needs}
 use Rattle.frame.proofs.Bodies.{word-stored}
 use Rattle.frame.proofs.body.put_word.Statement.{statement}
 use Rattle.frame.proofs.body.put_word.Tie as tie

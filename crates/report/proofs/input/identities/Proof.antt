@@ -2,8 +2,8 @@
 use Prim.Native.Nat.{ℕ, _≤_, _<_, _-_}
 use mathlib.Core.Path.{_≡_, refl, sym, ap, _∙_}
 use native.Mathlib.Omega.{arith}
-use borrow.Author.Needs.{needs}
 use lib.ListN.{length, getD, length-set}
+use borrow.Author.Needs.{needs}
 use Rattle.words.proofs.Blocks.{firsts-list}
 use Rattle.trial.specs.Input.{identityAt, valueIn}
 use Rattle.report.proofs.Lent.{filled-more}

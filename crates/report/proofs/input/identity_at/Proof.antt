@@ -1,9 +1,9 @@
 -- `report::input::identity_at` answers what frame i reads as. Assumes nothing.
 use mathlib.Core.Path.{sym, ap, _∙_}
 use native.Mathlib.Omega.{arith}
+use lib.ListN.{drop, length-drop}
 use borrow.Author.Needs.{needs}
 use borrow.Rule.Slice.PartAt.{part-to-end}
-use lib.ListN.{drop, length-drop}
 use Rattle.trial.specs.Input.{framePlace, identityOf}
 use Rattle.trial.proofs.Identities.{missing-read}
 use Rattle.report.proofs.input.identity_at.Statement.{statement}

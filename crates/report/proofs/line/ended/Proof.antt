@@ -1,7 +1,7 @@
 -- `report::line::ended` puts the last line. Assumes nothing.
 use native.Mathlib.Omega.{arith}
 use borrow.Author.Needs.{needs}
-use Rattle.trial.specs.Text.{ascii, field, leaderPart}
+use Rattle.trial.specs.Text.{ascii, labelled, leaderPart}
 use Rattle.report.proofs.Laid.{wrote-then}
 use Rattle.report.proofs.line.ended.Statement.{statement}
 use Rattle.report.proofs.line.ended.Tie as tie
@@ -16,17 +16,17 @@ returns c =
     let start = c21 .before .before .before .before in
     let a = start .args in
     let o = a .out .now in
-    let e = c21 .field in
-    let f = c16 .field2 in
-    let g = c11 .field3 in
+    let e = c21 .labelled in
+    let f = c16 .labelled2 in
+    let g = c11 .labelled3 in
     let h = c7 .leader in
     let two =
     wrote-then o (a .at) _ _ _ (e .ensures .0) (omega (arith, e .ensures .1, start .pre))
-    (field " taken " (a .taken)) _ _
+    (labelled " taken " (a .taken)) _ _
     (f .ensures .0) in
     let three =
     wrote-then o (a .at) _ _ _ two (omega (arith, e .ensures .1, f .ensures .1, start .pre))
-    (field " skipped " (a .skipped)) _ _ (g .ensures .0) in
+    (labelled " skipped " (a .skipped)) _ _ (g .ensures .0) in
     let four =
     wrote-then o (a .at) _ _ _ three (omega (arith, e .ensures .1, f .ensures .1, g .ensures .1, start .pre))
     (leaderPart (a .who)) _ _ (h .ensures .0) in

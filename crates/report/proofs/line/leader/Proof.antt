@@ -3,7 +3,7 @@ use mathlib.Core.Path.{sym, ap, _∙_}
 use native.Mathlib.Omega.{arith}
 use borrow.Author.Needs.{needs}
 use Rattle.words.specs.declared.Leading.{Leading}
-use Rattle.trial.specs.Text.{ascii, field, leaderPart}
+use Rattle.trial.specs.Text.{ascii, labelled, leaderPart}
 use Rattle.report.specs.Inside.{wrote}
 use Rattle.report.proofs.Laid.{wrote-ends, wrote-then}
 use Rattle.report.proofs.line.leader.Statement.{statement}
@@ -17,10 +17,10 @@ returns c =
     let start = c11 .before .before .before in
     let a = start .args in
     let x = c11 .who .given in
-    let f = c7 .field in
-    let g = c2 .field2 in (
+    let f = c7 .labelled in
+    let g = c2 .labelled2 in (
       wrote-then (a .out .now) (a .at) _ _ _ (f .ensures .0) (omega (arith, f .ensures .1, start .pre))
-          (field " value " (x .0 .1 .0)) _ _ (g .ensures .0)
+          (labelled " value " (x .0 .1 .0)) _ _ (g .ensures .0)
           ∙ sym (ap (λ (y : Leading). wrote (a .out .now) (a .at) (leaderPart y)) (x .1)),
       omega (arith, f .ensures .1, g .ensures .1),
     )

@@ -1,10 +1,10 @@
 -- `report::line::number` puts a number in decimal. Assumes nothing.
-use Prim.Native.Nat.{ℕ, _-_, _≤_, _<_, _^_}
+use Prim.Native.Nat.{ℕ, _≤_, _<_, _^_}
 use mathlib.Core.Path.{_≡_, ap, _∙_}
 use mathlib.Core.List.{_++_}
 use native.Mathlib.Omega.{arith}
-use borrow.Author.Needs.{needs}
 use lib.ListN.{length, drop, replicate}
+use borrow.Author.Needs.{needs}
 use Rattle.trial.specs.Text.{decimal}
 use Rattle.trial.proofs.Decimals.{digitsOf, decimal-few, decimal-short}
 use Rattle.report.specs.Inside.{wrote}

@@ -3,9 +3,9 @@ use Prim.Native.Nat.{_≤_, _-_}
 use mathlib.Core.Path.{_≡_, refl}
 use native.Mathlib.Numerals.{add-one}
 use native.Mathlib.Omega.{arith}
-use borrow.Author.Needs.{needs}
 use lib.ListN.{length}
 use lib.Seq.{paste, paste-zero, paste-suc}
+use borrow.Author.Needs.{needs}
 use Rattle.report.proofs.Laid.{copied}
 use Rattle.report.proofs.line.put.Statement.{statement}
 use Rattle.report.proofs.line.put.Tie as tie

@@ -1,7 +1,7 @@
 -- `report::line::step` puts the line of a taken step. Assumes nothing.
 use native.Mathlib.Omega.{arith}
 use borrow.Author.Needs.{needs}
-use Rattle.trial.specs.Text.{ascii, field}
+use Rattle.trial.specs.Text.{ascii, labelled}
 use Rattle.report.proofs.Laid.{wrote-ends, wrote-then}
 use Rattle.report.proofs.line.step.Statement.{statement}
 use Rattle.report.proofs.line.step.Tie as tie
@@ -17,19 +17,19 @@ returns c =
     let a = start .args in
     let o = a .out .now in
     let n = c22 .number in
-    let f = c17 .field in
-    let g = c12 .field2 in
-    let h = c7 .field3 in
+    let f = c17 .labelled in
+    let g = c12 .labelled2 in
+    let h = c7 .labelled3 in
     let p = c2 .put in
     let two =
-    wrote-then o (a .at) _ _ _ (n .ensures .0) (omega (arith, n .ensures .1, start .pre)) (field " " (a .process)) _ _
-    (f .ensures .0) in
+    wrote-then o (a .at) _ _ _ (n .ensures .0) (omega (arith, n .ensures .1, start .pre))
+    (labelled " " (a .process)) _ _ (f .ensures .0) in
     let three =
-    wrote-then o (a .at) _ _ _ two (omega (arith, n .ensures .1, f .ensures .1, start .pre)) (field " " (a .before)) _ _
-    (g .ensures .0) in
+    wrote-then o (a .at) _ _ _ two (omega (arith, n .ensures .1, f .ensures .1, start .pre))
+    (labelled " " (a .before)) _ _ (g .ensures .0) in
     let four =
     wrote-then o (a .at) _ _ _ three (omega (arith, n .ensures .1, f .ensures .1, g .ensures .1, start .pre))
-    (field " " (a .after)) _ _ (h .ensures .0) in (
+    (labelled " " (a .after)) _ _ (h .ensures .0) in (
       wrote-then o (a .at) _ _ _ four
           (omega (arith, n .ensures .1, f .ensures .1, g .ensures .1, h .ensures .1, start .pre)) (ascii "\n") _ _
           (p .ensures),

@@ -2,16 +2,16 @@
 use Prim.Native.Nat.{ℕ, _+_, _*_, _≤_, _^_}
 use mathlib.Core.Path.{ap}
 use native.Mathlib.Omega.{arith}
-use borrow.Author.Needs.{needs}
 use lib.ListN.{length, getD}
+use borrow.Author.Needs.{needs}
 use Rattle.words.specs.Layout.{capacityPlace, tableHead, statePlace, recordWidth}
 use Rattle.words.proofs.Spaces.{records-most}
+use Rattle.shape.proofs.width.Reads as width
 use Rattle.report.proofs.Tracing.{state-past}
 use Rattle.report.proofs.run.state_at.Statement.{statement}
 use Rattle.report.proofs.run.state_at.Tie as tie
 use Rattle.report.proofs.run.state_at.Reads as reads
 use Rattle.report.proofs.run.state_at.Lts as lts
-use Rattle.shape.proofs.width.Reads as width
 
 returns : tie.Need-returns
 returns c =

@@ -3,8 +3,8 @@ use Prim.Native.Nat.{_-_}
 use mathlib.Core.Path.{_≡_, refl, _∙_}
 use mathlib.Core.Logic.{⊎-elim}
 use native.Mathlib.Omega.{arith}
-use borrow.Author.Needs.{needs}
 use lib.ListN.{length}
+use borrow.Author.Needs.{needs}
 use Rattle.refusal.proofs.Outcomes.{outcome-known}
 use Rattle.report.proofs.Tracing.{Going, going-first, gone, gone-short, stayed, step-room, went}
 use Rattle.report.proofs.run.steps.Statement.{statement}

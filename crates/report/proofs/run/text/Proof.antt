@@ -2,8 +2,8 @@
 use Prim.Native.Nat.{_+_}
 use mathlib.Core.Path.{sym, ap, _∙_}
 use native.Mathlib.Omega.{arith}
-use borrow.Author.Needs.{needs}
 use lib.ListN.{take}
+use borrow.Author.Needs.{needs}
 use Rattle.trial.specs.Trace.{traceOf}
 use Rattle.trial.specs.Text.{stepLines, endLine}
 use Rattle.report.specs.Inside.{wrote}

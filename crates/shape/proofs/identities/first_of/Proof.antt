@@ -8,8 +8,8 @@ use borrow.Author.Tests.{not-false}
 use Rattle.ring.specs.Scan.{allBelow}
 use Rattle.ring.specs.Identities.{isFresh}
 use Rattle.ring.proofs.Scans.{all-at, first-none, all-more, first-is}
-use Rattle.shape.specs.Inside.{spaced}
 use Rattle.words.proofs.Spaces.{space-before}
+use Rattle.shape.specs.Inside.{spaced}
 use Rattle.shape.proofs.identities.first_of.Statement.{statement}
 use Rattle.shape.proofs.identities.first_of.Tie as tie
 

@@ -2,8 +2,8 @@
 use Prim.Native.Nat.{ℕ}
 use mathlib.Core.Path.{ap, _∙_}
 use mathlib.Core.Bool.{not}
-use borrow.Author.Needs.{needs}
 use lib.ListN.{length}
+use borrow.Author.Needs.{needs}
 use Rattle.ring.specs.Scan.{firstBelow}
 use Rattle.ring.specs.Identities.{isFresh}
 use Rattle.shape.proofs.Spaces.{list-spaced}

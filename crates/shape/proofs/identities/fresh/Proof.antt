@@ -3,13 +3,13 @@ use Prim.Native.Nat.{_+_, _*_, _≤_, _-_}
 use mathlib.Core.Path.{_≡_, sym, refl}
 use mathlib.Core.Bool.{true, not}
 use native.Mathlib.Omega.{arith}
+use lib.Dec.{eqb}
 use borrow.Author.Needs.{needs}
 use borrow.Author.Tests.{eq-eqb, ne-eqb}
-use lib.Dec.{eqb}
 use Rattle.ring.specs.Scan.{allBelow}
 use Rattle.ring.proofs.Scans.{all-more, all-fails}
-use Rattle.shape.specs.Inside.{spaced}
 use Rattle.words.proofs.Spaces.{next-space, space-before}
+use Rattle.shape.specs.Inside.{spaced}
 use Rattle.shape.proofs.identities.fresh.Statement.{statement}
 use Rattle.shape.proofs.identities.fresh.Tie as tie
 

@@ -1,9 +1,9 @@
 -- `shape::records::record_ok` tells whether a record is well-formed. Assumes nothing.
 use mathlib.Core.Path.{sym, ap, _∙_}
+use lib.ListN.{drop}
 use borrow.Author.Needs.{needs}
 use borrow.Author.Tests.{le-leb, lt-leb, not-true, not-false}
 use borrow.Rule.Slice.PartAt.{part-to-end}
-use lib.ListN.{drop}
 use Rattle.ring.specs.Scan.{allBelow}
 use Rattle.ring.proofs.Scans.{all-fewer}
 use Rattle.words.specs.Layout.{recordHead}

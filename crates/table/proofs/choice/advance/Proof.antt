@@ -1,5 +1,6 @@
 -- `table::choice::advance` is what comes of a choice, as a number and in words. Assumes nothing.
 use mathlib.Core.Path.{refl, sym, _∙_}
+use borrow.Author.Needs.{needs}
 use Rattle.gateway.proofs.Changes.{puts-changes}
 use Rattle.table.proofs.Moves.{
   formed-count,
@@ -11,7 +12,6 @@ use Rattle.table.proofs.Moves.{
   by-announcement,
   no-process,
 }
-use borrow.Author.Needs.{needs}
 use Rattle.table.proofs.choice.advance.Statement.{statement}
 use Rattle.table.proofs.choice.advance.Tie as tie
 

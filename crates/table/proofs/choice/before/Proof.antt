@@ -1,6 +1,6 @@
 -- `table::choice::before` is the process from which j takes. Assumes nothing.
-use Rattle.table.proofs.Moves.{prev-else}
 use borrow.Author.Needs.{needs}
+use Rattle.table.proofs.Moves.{prev-else}
 use Rattle.table.proofs.choice.before.Statement.{statement}
 use Rattle.table.proofs.choice.before.Tie as tie
 

@@ -1,6 +1,6 @@
 -- `table::choice::put_move` is a row that puts, carried out or refused. Assumes nothing.
-use Rattle.table.proofs.Moves.{within, put-done, put-full}
 use borrow.Author.Needs.{needs}
+use Rattle.table.proofs.Moves.{within, put-done, put-full}
 use Rattle.table.proofs.choice.put_move.Statement.{statement}
 use Rattle.table.proofs.choice.put_move.Tie as tie
 

@@ -1,7 +1,7 @@
 -- `table::choice::take_move` is a row that takes, carried out or refused. Assumes nothing.
 use mathlib.Core.Path.{sym, _∙_}
-use Rattle.table.proofs.Moves.{within, within-same, i-below, take-empty, take-wrong, still-some, take-done}
 use borrow.Author.Needs.{needs}
+use Rattle.table.proofs.Moves.{within, within-same, i-below, take-empty, take-wrong, still-some, take-done}
 use Rattle.table.proofs.choice.take_move.Statement.{statement}
 use Rattle.table.proofs.choice.take_move.Tie as tie
 

@@ -1,7 +1,7 @@
 -- `table::leader::leads_at` tells whether process j is in state 6. Assumes nothing.
 use mathlib.Core.Path.{_∙_}
-use Rattle.table.proofs.Moves.{within, read-is}
 use borrow.Author.Needs.{needs}
+use Rattle.table.proofs.Moves.{within, read-is}
 use Rattle.table.proofs.leader.leads_at.Statement.{statement}
 use Rattle.table.proofs.leader.leads_at.Tie as tie
 

@@ -1,6 +1,6 @@
 -- `table::lent::length_at` gives the queue length of record j. Assumes nothing.
-use Rattle.table.proofs.Lending.{lend-length}
 use borrow.Author.Needs.{needs}
+use Rattle.table.proofs.Lending.{lend-length}
 use Rattle.table.proofs.lent.length_at.Statement.{statement}
 use Rattle.table.proofs.lent.length_at.Tie as tie
 

@@ -1,8 +1,8 @@
 -- `table::lent::oldest_at` gives the message of slot 0 of record j. Assumes nothing.
 use mathlib.Core.Path.{_∙_, ap}
-use Rattle.table.specs.Inside.{oldestOf}
-use Rattle.words.proofs.Tables.{record-part}
 use borrow.Author.Needs.{needs}
+use Rattle.words.proofs.Tables.{record-part}
+use Rattle.table.specs.Inside.{oldestOf}
 use Rattle.table.proofs.lent.oldest_at.Statement.{statement}
 use Rattle.table.proofs.lent.oldest_at.Tie as tie
 

@@ -1,8 +1,8 @@
 -- `table::lent::place` is where a record begins. Assumes nothing.
 use native.Mathlib.Omega.{arith}
+use borrow.Author.Needs.{needs}
 use Rattle.words.specs.Layout.{mostProcesses, mostCapacity}
 use Rattle.words.proofs.Spaces.{records-most}
-use borrow.Author.Needs.{needs}
 use Rattle.table.proofs.lent.place.Statement.{statement}
 use Rattle.table.proofs.lent.place.Tie as tie
 

@@ -1,9 +1,9 @@
 -- `table::lent::put_at` fills the first free slot of record j and changes its state. Assumes nothing.
 use native.Mathlib.Omega.{arith}
-use Rattle.words.proofs.Tables.{record-length, record-part}
-use Rattle.table.proofs.Lending.{lend-put}
-use Rattle.table.specs.Inside.{putWords}
 use borrow.Author.Needs.{needs}
+use Rattle.words.proofs.Tables.{record-length, record-part}
+use Rattle.table.specs.Inside.{putWords}
+use Rattle.table.proofs.Lending.{lend-put}
 use Rattle.table.proofs.lent.put_at.Statement.{statement}
 use Rattle.table.proofs.lent.put_at.Tie as tie
 

@@ -1,8 +1,8 @@
 -- `table::lent::read_at` gives the process of record j. Assumes nothing.
 use mathlib.Core.Path.{_∙_, ap}
+use borrow.Author.Needs.{needs}
 use Rattle.words.specs.Table.{readProc}
 use Rattle.words.proofs.Tables.{record-part}
-use borrow.Author.Needs.{needs}
 use Rattle.table.proofs.lent.read_at.Statement.{statement}
 use Rattle.table.proofs.lent.read_at.Tie as tie
 

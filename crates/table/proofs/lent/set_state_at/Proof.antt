@@ -1,7 +1,7 @@
 -- `table::lent::set_state_at` changes the state word of record j alone. Assumes nothing.
-use Rattle.table.proofs.Lending.{lend-put}
-use Rattle.table.specs.Inside.{entered}
 use borrow.Author.Needs.{needs}
+use Rattle.table.specs.Inside.{entered}
+use Rattle.table.proofs.Lending.{lend-put}
 use Rattle.table.proofs.lent.set_state_at.Statement.{statement}
 use Rattle.table.proofs.lent.set_state_at.Tie as tie
 

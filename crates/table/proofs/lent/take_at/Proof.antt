@@ -1,9 +1,9 @@
 -- `table::lent::take_at` takes the oldest message off the queue of record j. Assumes nothing.
 use native.Mathlib.Omega.{arith}
-use Rattle.table.specs.Inside.{takenWords}
-use Rattle.words.proofs.Tables.{record-length, record-part}
-use Rattle.table.proofs.Lending.{lend-put}
 use borrow.Author.Needs.{needs}
+use Rattle.words.proofs.Tables.{record-length, record-part}
+use Rattle.table.specs.Inside.{takenWords}
+use Rattle.table.proofs.Lending.{lend-put}
 use Rattle.table.proofs.lent.take_at.Statement.{statement}
 use Rattle.table.proofs.lent.take_at.Tie as tie
 

@@ -3,8 +3,8 @@ use Prim.Native.Nat.{_≤_, _-_, _+_}
 use mathlib.Core.Path.{_≡_}
 use mathlib.Core.List.{_++_}
 use native.Mathlib.Omega.{arith}
-use borrow.Author.Needs.{needs}
 use lib.ListN.{length, take, drop, length-set}
+use borrow.Author.Needs.{needs}
 use Rattle.words.specs.Layout.{slotWidth}
 use Rattle.table.proofs.Shifting.{shift-turn, shift-end}
 use Rattle.table.proofs.record.shift.Statement.{statement}

@@ -2,14 +2,14 @@
 use Prim.Native.Nat.{_-_}
 use mathlib.Core.Path.{_∙_}
 use native.Mathlib.Omega.{arith}
-use borrow.Rule.Slice.PartAt.{part-to-end}
-use borrow.Rule.Slice.PartMut.{same-len-mid}
 use lib.ListN.{length, set, length-set, length-drop}
 use lib.Seq.{drop-set-lt}
+use borrow.Rule.Slice.PartAt.{part-to-end}
+use borrow.Rule.Slice.PartMut.{same-len-mid}
+use borrow.Author.Needs.{needs}
 use Rattle.words.specs.Layout.{lengthPlace, recordHead}
 use Rattle.words.specs.Table.{lengthOf}
 use Rattle.table.proofs.Shifting.{tail-put}
-use borrow.Author.Needs.{needs}
 use Rattle.table.proofs.record.take.Statement.{statement}
 use Rattle.table.proofs.record.take.Tie as tie
 

@@ -3,10 +3,10 @@ use Prim.Native.Nat.{_≤_, _-_}
 use mathlib.Core.Path.{_≡_, refl}
 use mathlib.Core.List.{_++_, append-nil}
 use native.Mathlib.Omega.{arith}
-use borrow.Author.Fill.{fill-more}
-use borrow.Author.Needs.{needs}
 use lib.ListN.{length, drop}
 use lib.Seq.{drop-length}
+use borrow.Author.Fill.{fill-more}
+use borrow.Author.Needs.{needs}
 use Rattle.table.specs.Inside.{zeros}
 use Rattle.table.proofs.starting.clear.Statement.{statement}
 use Rattle.table.proofs.starting.clear.Tie as tie

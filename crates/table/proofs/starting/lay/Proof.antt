@@ -2,9 +2,9 @@
 use Prim.Native.Nat.{_+_, _-_, _≤_}
 use mathlib.Core.Path.{_≡_, _∙_}
 use native.Mathlib.Omega.{arith}
+use lib.ListN.{length, length-set}
 use borrow.Author.Needs.{needs}
 use borrow.Rule.Slice.PartMut.{mid-len, same-len-mid}
-use lib.ListN.{length, length-set}
 use Rattle.words.specs.Layout.{recordPlace, tableLength}
 use Rattle.words.proofs.Tables.{record-inside, next-place}
 use Rattle.table.proofs.Laying.{laid, laid-none, laid-more, laid-all}

@@ -1,7 +1,7 @@
 -- `table::starting::lay_record` stores the identity, and the same word as d. Assumes nothing.
 use native.Mathlib.Omega.{arith}
-use borrow.Author.Needs.{needs}
 use lib.ListN.{length-set}
+use borrow.Author.Needs.{needs}
 use Rattle.table.proofs.starting.lay_record.Statement.{statement}
 use Rattle.table.proofs.starting.lay_record.Tie as tie
 

@@ -1,10 +1,10 @@
--- `report::line::field` puts a word and a number. Assumes nothing.
+-- `report::line::labelled` puts a word and a number. Assumes nothing.
 use native.Mathlib.Omega.{arith}
 use borrow.Author.Needs.{needs}
 use Rattle.trial.specs.Text.{decimal}
 use Rattle.report.proofs.Laid.{wrote-ends, wrote-then}
-use Rattle.report.proofs.line.field.Statement.{statement}
-use Rattle.report.proofs.line.field.Tie as tie
+use Rattle.report.proofs.line.labelled.Statement.{statement}
+use Rattle.report.proofs.line.labelled.Tie as tie
 
 number-requires : tie.Need-number-requires
 number-requires c κs =
@@ -28,5 +28,5 @@ returns c =
       omega (arith, ends, q .ensures .1),
     )
 
-pub field-spec : {M : Type 1} → statement M
-field-spec = tie.close (tie.spec (λ c κs. search needs) number-requires (λ c. search needs) returns)
+pub labelled-spec : {M : Type 1} → statement M
+labelled-spec = tie.close (tie.spec (λ c κs. search needs) number-requires (λ c. search needs) returns)
