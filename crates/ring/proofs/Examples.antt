@@ -36,6 +36,11 @@ pub start59-rows : Start59
 unfolding started
 start59-rows = record { process = refl; queue = refl }
 
+-- what is put goes behind what was put before; capacity 2
+pub oldest-first : queueOf (after gateways 2 2 start59 (0 ∷ 1 ∷ 0 ∷ 0 ∷ [])) 0 ≡ msg 5 Active ∷ msg 9 Passive ∷ []
+unfolding after move started decLt ℕ-discrete
+oldest-first = refl
+
 -- the run of the card: 13 taken, process 0 leads with 9
 abbrev run59 : Run Proc Msg
 run59 = running 2 1 (turns 12) start59 24 0 0
