@@ -335,14 +335,14 @@ def input_lines(data):
 
 def case_text(name, data):
     printed = [f"| {line}" for line in bench(data).splitlines()]
-    return "\n".join([f"case {name}", *input_lines(data), *printed, "", ""])
+    return "\n".join([f"case {name}", *input_lines(data), *printed, ""])
 
 
 def file_text(subject, seed):
     """A subject's file; no two of its cases have the same name."""
     cases = list(subject(Chance(f"{seed} {subject.__name__}")))
     assert len({name for name, _ in cases}) == len(cases)
-    return f"# {subject.__doc__}\n\n" + "".join(case_text(name, data) for name, data in cases)
+    return "\n".join([f"# {subject.__doc__}\n"] + [case_text(name, data) for name, data in cases])
 
 
 def differing(folder, texts):

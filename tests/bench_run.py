@@ -55,7 +55,7 @@ def ended(status):
 
 
 def run(program, data, front):
-    """What the program printed, and what is wrong with how it ended, if anything; front bytes come first, then a pause."""
+    """What the program printed, and what is wrong with how it ended, if anything; a pause comes after front bytes."""
     process = subprocess.Popen([program], stdin=subprocess.PIPE, stdout=subprocess.PIPE)
     if front:
         process.stdin.write(data[:front])

@@ -1,5 +1,7 @@
-/* Numbers drawn from a seed, by splitmix64. */
+/* Numbers drawn from a seed, of the kinds that questions need. */
 #include "draw.h"
+
+#include "splitmix.h"
 
 static uint64_t state;
 
@@ -10,10 +12,7 @@ void draw_seed(uint64_t seed)
 
 uint32_t draw(void)
 {
-    uint64_t z = state += UINT64_C(0x9E3779B97F4A7C15);
-    z = (z ^ (z >> 30)) * UINT64_C(0xBF58476D1CE4E5B9);
-    z = (z ^ (z >> 27)) * UINT64_C(0x94D049BB133111EB);
-    return (uint32_t)((z ^ (z >> 31)) >> 32);
+    return splitmix(&state);
 }
 
 uint32_t draw_below(uint32_t bound)

@@ -1,4 +1,4 @@
-/* Numbers drawn from a seed. */
+/* Numbers drawn from a seed, of the kinds that questions need. */
 #ifndef DRAW_H
 #define DRAW_H
 

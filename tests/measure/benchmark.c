@@ -7,6 +7,8 @@
 #include <string.h>
 #include <time.h>
 
+#include "splitmix.h"
+
 /* A batch lasts this long at least, where the copies suffice: the clock's grain is far below a percent of it. */
 #define BATCH_NS 50000u
 #define SHARED_ITEMS 64u
@@ -199,7 +201,7 @@ static void set_schedule(const struct ring_row *row, uint32_t n)
     uint64_t seed = n;
     work.shift = row->draws ? SCHEDULE_SHIFT : 0;
     for (size_t i = 0; i < sizeof work.schedule; i++)
-        work.schedule[i] = (uint8_t)((row->draws ? drawn(&seed) : i) % n);
+        work.schedule[i] = (uint8_t)((row->draws ? splitmix(&seed) : i) % n);
 }
 
 static int measured_ring(struct timing *timing, const struct ring_row *row, struct ring_size size, size_t rounds)
@@ -230,11 +232,11 @@ static int measured_frames(struct timing *timing, const struct frame_row *row, s
     work.passes = 1;
     work.length = row->length;
     for (size_t i = 0; i < sizeof work.frames; i++)
-        work.frames[i] = i % THK_FRAME_BYTES == 0 ? row->first[drawn(&seed) % 4] : (uint8_t)drawn(&seed);
+        work.frames[i] = i % THK_FRAME_BYTES == 0 ? row->first[splitmix(&seed) % 4] : (uint8_t)splitmix(&seed);
     for (size_t i = 0; i < FRAMES; i++) {
-        work.asks[i].generation = row->first[drawn(&seed) % 4];
-        work.asks[i].kind = row->kinds[drawn(&seed) % 2];
-        work.asks[i].value = drawn(&seed);
+        work.asks[i].generation = row->first[splitmix(&seed) % 4];
+        work.asks[i].kind = row->kinds[splitmix(&seed) % 2];
+        work.asks[i].value = splitmix(&seed);
     }
     return measured(timing, row->name, none, rounds);
 }

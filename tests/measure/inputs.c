@@ -43,10 +43,10 @@ static void make_steps(const struct kept *kept, user *use)
 static void make_runs(const struct kept *kept, user *use)
 {
     static const struct { size_t length; uint32_t budget; } ways[] = {
-        { SCHEDULE_BYTES, UINT32_MAX }, { SCHEDULE_BYTES, 3 }, { 0, UINT32_MAX },
+        { INPUT_BYTES, UINT32_MAX }, { INPUT_BYTES, 3 }, { 0, UINT32_MAX },
     };
     uint32_t turns = kept->table[0] % (THK_MOST_PROCESSES + 1) + 1;
-    for (size_t i = 0; i < SCHEDULE_BYTES; i++)
+    for (size_t i = 0; i < INPUT_BYTES; i++)
         input.bytes[i] = (uint8_t)(i % turns);
     for (size_t i = 0; i < sizeof ways / sizeof ways[0]; i++) {
         lend(kept);

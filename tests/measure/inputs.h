@@ -4,16 +4,14 @@
 
 #include "rings.h"
 
-#define SCHEDULE_BYTES (4u * MOST_STEPS)
-
-enum entry { START, STEP, RUN, LEADS, READ, WRITE, ENTRIES };
+#define INPUT_BYTES (4u * MOST_STEPS)
 
 /* The arguments of a call; each entry uses those that it has. */
 struct input {
     uint32_t table[THK_MOST_WORDS], identities[THK_MOST_PROCESSES + 1];
     uint32_t capacity, chosen, budget, generation, kind, value;
     size_t words, n, length;
-    uint8_t bytes[SCHEDULE_BYTES];
+    uint8_t bytes[INPUT_BYTES];
 };
 
 /* The state of a process of a well-formed table. */

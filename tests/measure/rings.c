@@ -3,16 +3,9 @@
 
 #include <string.h>
 
-const struct ring_size ring_sizes[RING_SIZES] = { { 2, 1 }, { 4, 2 }, { 16, 1 }, { 16, 16 } };
+#include "splitmix.h"
 
-/* splitmix64, its upper half. */
-uint32_t drawn(uint64_t *seed)
-{
-    uint64_t z = *seed += UINT64_C(0x9E3779B97F4A7C15);
-    z = (z ^ (z >> 30)) * UINT64_C(0xBF58476D1CE4E5B9);
-    z = (z ^ (z >> 27)) * UINT64_C(0x94D049BB133111EB);
-    return (uint32_t)((z ^ (z >> 31)) >> 32);
-}
+const struct ring_size ring_sizes[RING_SIZES] = { { 2, 1 }, { 4, 2 }, { 16, 1 }, { 16, 16 } };
 
 static int announced(const uint32_t *table, size_t words)
 {
@@ -27,12 +20,12 @@ int held(struct election *election, struct ring_size size, uint64_t seed)
     election->words = words;
     election->steps = 0;
     for (uint32_t i = 0; i < size.n; i++)
-        election->identities[i] = drawn(&seed);
+        election->identities[i] = splitmix(&seed);
     if (peer_start(table, words, election->identities, size.n, size.c).number != THK_DONE)
         return 0;
     memcpy(election->start, table, words * sizeof table[0]);
     for (uint32_t tries = 0; tries < 64 * MOST_STEPS && election->steps < MOST_STEPS; tries++) {
-        uint32_t chosen = drawn(&seed) % size.n;
+        uint32_t chosen = splitmix(&seed) % size.n;
         if (peer_step(table, words, chosen).number != THK_DONE)
             continue;
         election->choices[election->steps++] = (uint8_t)chosen;

@@ -7,6 +7,8 @@
 #define MOST_STEPS (6u * THK_MOST_PROCESSES * THK_MOST_PROCESSES)
 #define RING_SIZES 4u
 
+enum entry { START, STEP, RUN, LEADS, READ, WRITE, ENTRIES };
+
 struct ring_size { uint32_t n, c; };
 
 /* An election from its started table to the step that announces; every choice in it is done. */
@@ -19,9 +21,6 @@ struct election {
 };
 
 extern const struct ring_size ring_sizes[RING_SIZES];
-
-/* The next number of the sequence that the seed stands for. */
-uint32_t drawn(uint64_t *seed);
 
 /* Makes an election of random choices; 0 where the peer does not bring it to its end. */
 int held(struct election *election, struct ring_size size, uint64_t seed);

@@ -10,8 +10,6 @@
 /* How far into the random bytes each copy of a table begins further than the one before. */
 #define SCHEDULE_SHIFT 16u
 
-enum entry { START, STEP, RUN, LEADS, READ, WRITE, ENTRIES };
-
 struct ask { uint32_t generation, kind, value; };
 
 /* All that the calls of a pass write; MOST_STEPS is also the most results that one pass keeps. */
