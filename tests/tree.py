@@ -11,7 +11,10 @@ import re
 import textwrap
 
 ROOT = pathlib.Path(__file__).resolve().parent.parent
-LEFT_OUT = {".git", "target", "__pycache__"}
+# what else lies beside these, as a log of the gate, is not of the tree
+KEPT = {".ci", "crates", "docs", "examples", "include", "tests", "tools",
+        ".gitignore", "README.md", "crates.txt", "elect"}
+LEFT_OUT = "__pycache__"
 
 NAME = r'[^\s(){}.,;"]+'
 TOKEN = re.compile(rf'"(?:\\.|[^"\\])*"|\.?{NAME}(?:\.{NAME})*')
@@ -44,8 +47,9 @@ def files():
     """Every file of the tree, in order."""
     found = []
     for folder, inner, names in os.walk(ROOT):
-        inner[:] = sorted(set(inner) - LEFT_OUT)
-        found += [pathlib.Path(folder, name) for name in sorted(set(names) - LEFT_OUT)]
+        kept = KEPT if pathlib.Path(folder) == ROOT else {*inner, *names} - {LEFT_OUT}
+        inner[:] = sorted(kept.intersection(inner))
+        found += [pathlib.Path(folder, name) for name in sorted(kept.intersection(names))]
     return found
 
 
