@@ -1,6 +1,6 @@
 #!/bin/sh
 # The C edge: the header, what the archive holds, the example, the comparison with the peer, the same under sanitizers,
-# and a short run of the benchmark. Needs target/staticlib/libhub.a, which `rt staticlib hub` makes.
+# and a short run of the benchmark. Needs target/staticlib/libhub.a, which tools/build makes.
 set -eu
 cd "$(dirname "$0")/.."
 archive=target/staticlib/libhub.a
@@ -22,7 +22,7 @@ built_as() {
     gcc $strict "$@" "$archive" -o "$built/$name"
 }
 
-[ -f "$archive" ] || fail "no $archive: run rt staticlib hub"
+[ -f "$archive" ] || fail "no $archive: run tools/build archive"
 mkdir -p "$built"
 
 sh tests/header.sh

@@ -34,10 +34,11 @@ sevens() {
 
 make_copy() {
     rm -rf "$copy"
-    mkdir -p "$copy/crates" "$copy/tools"
+    mkdir -p "$copy/crates/bench" "$copy/tools" "$copy/path"
     cp elect crates.txt "$copy"
+    cp tools/build "$copy/tools"
     for tool in cat chmod cp dirname find mkdir rm tr touch wc; do
-        ln -s "$(command -v $tool)" "$copy/tools"
+        ln -s "$(command -v $tool)" "$copy/path"
     done
     printf '#!/bin/sh\necho end 1\n' >"$copy/bench"
     chmod +x "$copy/bench"
@@ -46,8 +47,8 @@ make_copy() {
 }
 
 make_rt() {
-    printf '#!/bin/sh\n%s\n' "$1" >"$copy/tools/rt"
-    chmod +x "$copy/tools/rt"
+    printf '#!/bin/sh\n%s\n' "$1" >"$copy/path/rt"
+    chmod +x "$copy/path/rt"
 }
 
 call 0 '1 0 0 1
@@ -88,12 +89,12 @@ call 2 '' '*--schedule has no value: *' 7 --schedule
 
 make_copy
 elect=$copy/elect
-PATH=$copy/tools
+PATH=$copy/path
 cd /
 call 3 '' '*rt, which builds it, is not on the PATH'
 make_rt 'exit 1'
 call 3 '' '*building*could not be built: *'
-make_rt 'mkdir -p target/bin && cp -p bench target/bin'
+make_rt 'mkdir -p out && cp -p ../../bench out'
 call 0 'end 1' '*building*'
 make_rt 'exit 1'
 call 0 'end 1' ''

@@ -23,12 +23,17 @@ MEASURED = {".antt", ".rt", ".py", ".sh", ".c", ".h"}
 NO_TABS = {".antt", ".rt", ".py"}
 # what programs read and print, to the byte
 DATA = {"stdin", "stdout", "hub.txt"}
-BARE = {".gitignore"}
+# docs/PORT.md begins with commits
+BARE = {".gitignore", "PORT.md"}
+# std's traits whose methods are called: importing one is what makes them known
+METHODS = {"Read": "read", "Write": "write_all|flush"}
 # their laws are cases that are computed: nothing uses them
 COMPUTED = {"Examples", "Conditions", "Cards"}
+# what they say of a function's goals is what the checker asks for
+FOR_GOALS = {"Answers", "Invariants"}
 HEADER = ROOT / "include" / "thuyrekho.h"
-# in this order, and before our own crates
-LIBRARIES = ["Prim", "mathlib", "native", "lib", "borrow"]
+# in this order, std as Rattle, and before our own crates
+LIBRARIES = ["Rattle", "Prim", "mathlib", "native", "lib", "borrow"]
 
 
 def kind(path):
@@ -111,7 +116,7 @@ def law_import_faults():
 def rank(name, own):
     """Where an import stands: the kit's libraries, then the crates in the order of crates.txt, its own one last."""
     module = tree.MODULE.match(name.path)
-    if not module:
+    if not module or module[1] not in tree.crates():
         return LIBRARIES.index(name.path.split(".")[0]), 0, False
     crate = len(tree.crates()) if module[1] == own else tree.crates().index(module[1])
     return len(LIBRARIES), crate, module[2].startswith("proofs")
@@ -141,13 +146,19 @@ def contracts(file):
     return set().union(*[part.contract for part in file.declared.values()])
 
 
+def brings_method(file, name):
+    """Whether an import is a trait whose methods the file calls."""
+    methods = METHODS.get(name.called)
+    return methods is not None and re.search(rf"\.(?:{methods})\(", text(file.path)) is not None
+
+
 def code_import_faults():
     found = []
     for file in tree.code().values():
         heads = {path.split("::")[0] for part in file.declared.values() for path, follows in part.paths
                  if "::" in path or follows == "(" or not path.islower()}
         found += [(file.path, name.line, name) for name in file.imports
-                  if name.called not in heads and name.called not in file.passed_on]
+                  if name.called not in heads and name.called not in file.passed_on and not brings_method(file, name)]
         found += [(file.path, name.line, name) for name in file.ghosts if not tree.occurs(name.called, contracts(file))]
     return [(path, line, f"{name.called} is imported and not used") for path, line, name in found]
 
@@ -231,8 +242,8 @@ def law_roots():
     for path, file in tree.laws().items():
         if path.stem in COMPUTED:
             found |= {(path, name) for name in file.declared}
-        if path.stem == "Proof":
-            found |= {(path, part.name) for part in file.declared.values() if part.public and "statement" in part.words}
+        if path.stem in FOR_GOALS:
+            found |= {(path, part.name) for part in file.declared.values() if part.public and "goal" in part.words}
     for file in tree.code().values():
         named = [name for name in file.ghosts if name.file() and tree.occurs(name.called, contracts(file))]
         found |= {owner(name.file(), name.name) for name in named}

@@ -14,7 +14,7 @@ ROOT = pathlib.Path(__file__).resolve().parent.parent
 # what else lies beside these, as a log of the gate, is not of the tree
 KEPT = {".ci", "crates", "docs", "examples", "include", "tests", "tools",
         ".gitignore", "README.md", "crates.txt", "elect"}
-LEFT_OUT = "__pycache__"
+LEFT_OUT = {"__pycache__", "out"}
 
 NAME = r'[^\s(){}.,;"]+'
 TOKEN = re.compile(rf'"(?:\\.|[^"\\])*"|\.?{NAME}(?:\.{NAME})*')
@@ -26,16 +26,16 @@ BINDER = re.compile(rf"[({{]\s*((?:{NAME}\s+)+):\s|λ\s+((?:{NAME}\s+)*{NAME})\.
 GIVEN = re.compile(rf"([{{;]\s*){NAME}(?=\s=\s)")
 USE = re.compile(r"use\s+(\S+?)(?:(?:\.|::)\{(.*)\}|\s+as\s+(\S+?))?;?$", re.S)
 MODULE_HEAD = re.compile(r"module\s.*\swhere", re.S)
-MODULE = re.compile(r"Rattle·(\w+)(?:·\w+)?\.((?:specs|proofs)\..+)")
-DECLARED = re.compile(r"Rattle·(\w+)(?:·\w+)?\.specs\.declared\.(\w+)")
+MODULE = re.compile(r"Rattle\.(\w+)\.((?:specs|proofs)\..+)")
+DECLARED = re.compile(r"Rattle\.(\w+)\.specs\.declared\.(\w+)")
 
 CODE_ITEM = re.compile(r'(pub |pub\(crate\) )?(?:extern "C" |const (?=fn))?'
                        r'(ghost use|use|mod|fn|const|static|type|struct|enum) (\w+)')
 # a path that is no field and no method, and what follows it: an argument, a type
 CODE_PATH = re.compile(r"(?<![\w'])(?<!(?<!\.)\.)([A-Za-z_]\w*(?:::[A-Za-z_]\w*)*)\s*(\(|:(?!:))?")
 CODE_LEFT_OUT = re.compile(r'b?"(?:\\.|[^"\\])*"|//.*')
-CONTRACT = re.compile(r"⌜(.*?)⌝", re.S)
-GIVEN_TO = re.compile(r"fn \w+\((.*?)\)\s*(?:->|\{|requires|ensures)", re.S)
+CONTRACT = re.compile(r"^ +(?:requires|ensures)(?: \w+)? \{((?:[^{}]|\{[^{}]*\})*)\}", re.M)
+GIVEN_TO = re.compile(r"fn \w+(?:<.*?>)?\((.*?)\)\s*(?:->|\{|requires|ensures)", re.S)
 
 
 def shown(path):
@@ -47,7 +47,7 @@ def files():
     """Every file of the tree, in order."""
     found = []
     for folder, inner, names in os.walk(ROOT):
-        kept = KEPT if pathlib.Path(folder) == ROOT else {*inner, *names} - {LEFT_OUT}
+        kept = KEPT if pathlib.Path(folder) == ROOT else {*inner, *names} - LEFT_OUT
         inner[:] = sorted(kept.intersection(inner))
         found += [pathlib.Path(folder, name) for name in sorted(kept.intersection(names))]
     return found
@@ -62,18 +62,19 @@ def text(path):
 def crates():
     """The names of crates.txt."""
     lines = text(ROOT / "crates.txt").splitlines()
-    return [line.partition(":")[0] for line in lines if line and not line.startswith("#")]
+    return [line.partition(":")[0].split()[0] for line in lines if line and not line.startswith("#")]
 
 
 def tokens(line):
-    """The names in a line; a string, a field that is given and a projection, which begins with a dot, are none."""
-    return {token for token in TOKEN.findall(GIVEN.sub(r"\1", line)) if token[0] not in '".'}
+    """The names in a line, with what stands before a dot; a string, a field that is given or taken are none."""
+    found = [token for token in TOKEN.findall(GIVEN.sub(r"\1", line)) if token[0] not in '".']
+    return {*found, *[token.partition(".")[0] for token in found]}
 
 
 def occurs(name, words):
     """Whether a name is among the words; an operator may be there by its parts."""
-    pieces = [piece for piece in name.split("_") if piece]
-    return name in words or "_" in name and bool(pieces) and all(piece in words for piece in pieces)
+    pieces = [piece for piece in name.split("◌") if piece]
+    return name in words or "◌" in name and bool(pieces) and all(piece in words for piece in pieces)
 
 
 class Import:

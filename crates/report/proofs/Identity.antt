@@ -8,5 +8,6 @@ use Rattle.wire.specs.Frames.{head_of}
 use Rattle.trial.specs.Input.{identity_as, identity_of}
 
 -- by what the head that was found is
-pub identity_as_head : (s : List ℕ) (h : Head) → h ≡ head_of (get_or s 0 0) → {x : Head} → h ≡ x → identity_as x s ≡ identity_of s
+pub identity_as_head : (s : List ℕ) (h : Head) → h ≡ head_of (get_or s 0 0) → {x : Head} → h ≡ x →
+    identity_as x s ≡ identity_of s
 identity_as_head s h named e = ap (λ x. identity_as x s) (sym e ∙ named)

@@ -40,11 +40,13 @@ module _ (t : List ℕ) (n c : ℕ) (R : Ring Proc Msg) (rest : List ℕ) (l : L
         rw (l.image, past_head c j)
         (ap (λ (x : List ℕ). n ∷ c ∷ x)
         (block_put (record_width c) n (λ j. record_words c (proc_at R j) (queue_of R j))
-        (λ j. record_words c (proc_at R' j) (queue_of R' j)) (λ j. length_record c (proc_at R j) (queue_of R j)) rest j below
+        (λ j. record_words c (proc_at R' j) (queue_of R' j)) (λ j. length_record c (proc_at R j) (queue_of R j))
+        rest j below
         (λ k ne. rw ((same k ne).0, (same k ne).1))))
 
     -- process j becomes p
-    becomes : (p : Proc) → with_record t c j (record_words c p (queue_of R j)) ≡ table_words n c (becoming R j p) ++ rest
+    becomes : (p : Proc) →
+        with_record t c j (record_words c p (queue_of R j)) ≡ table_words n c (becoming R j p) ++ rest
     becomes p =
         let e : proc_at (becoming R j p) j ≡ p =
         get_or-set_same R.procs j p (starting 0) (omega (arith, l.procs)) in
@@ -55,7 +57,8 @@ module _ (t : List ℕ) (n c : ℕ) (R : Ring Proc Msg) (rest : List ℕ) (l : L
     became p e = rw (record_is, became_record c (proc_at R j) p (queue_of R j) e) (becomes p)
 
     pub entered_is : (s : State) →
-        with_record t c j (entered (record_at t c j) s) ≡ table_words n c (becoming R j (in_state s (proc_at R j))) ++ rest
+        with_record t c j (entered (record_at t c j) s)
+        ≡ table_words n c (becoming R j (in_state s (proc_at R j))) ++ rest
     entered_is s = rw (record_is, entered_words c (proc_at R j) (queue_of R j) s) (becomes (in_state s (proc_at R j)))
 
     -- its queue loses its oldest message

@@ -101,7 +101,8 @@ done_printed s e = by_asked (asked_of s) refl e
 -- the number in a line of a refusal
 abbrev line_number : List ℕ → ℕ
 line_number l =
-    cond (eqb (get_or l 9 0) (code "\n")) (get_or l 8 0 - digit 0) (10 * (get_or l 8 0 - digit 0) + (get_or l 9 0 - digit 0))
+    cond (eqb (get_or l 9 0) (code "\n")) (get_or l 8 0 - digit 0)
+    (10 * (get_or l 8 0 - digit 0) + (get_or l 9 0 - digit 0))
 
 refused_line_number : (x : Refusal) → line_number (refused_line x) ≡ (numbered x).number
 unfolding digits_in

@@ -76,7 +76,8 @@ module _ (s : List ℕ) where
     asked_headed = rw (le-ltb _ _ long)
 
     -- by the size and the answer that they come to
-    pub asked_by_parts : (z : Size) (a : Answer) → size_of n c ≡ z → in_turn n (identity_at s) ≡ a → asked_by z a n c ≡ asked_of s
+    pub asked_by_parts : (z : Size) (a : Answer) → size_of n c ≡ z → in_turn n (identity_at s) ≡ a →
+        asked_by z a n c ≡ asked_of s
     asked_by_parts z a e f = ap₂ (λ z a. asked_by z a n c) (sym e) (sym f) ∙ asked_headed
 
 -- a ring that is asked for is within the limits, and of the header's numbers
@@ -84,7 +85,8 @@ pub asked_ring : (s : List ℕ) (n c : ℕ) → asked_of s ≡ Asked.Ring n c �
     Sized n c × (n ≡ count_in s) × (c ≡ capacity_in s)
 unfolding asked_of
 asked_ring s n c e =
-    go (ltb (length s) header_length) (size_of (count_in s) (capacity_in s)) refl (in_turn (count_in s) (identity_at s)) e
+    go (ltb (length s) header_length) (size_of (count_in s) (capacity_in s)) refl
+    (in_turn (count_in s) (identity_at s)) e
   where
     go : (short : Bool) (z : Size) → size_of (count_in s) (capacity_in s) ≡ z → (frames : Answer) →
         cond short (Asked.Refused NoByte) (asked_by z frames (count_in s) (capacity_in s)) ≡ Asked.Ring n c →

@@ -109,7 +109,8 @@ pub record Ring59 : Type 0 where
       ≡ record { number = 5; place = 0; found = 0; process = 0; value = 0 }
 
 pub ring59 : Ring59
-unfolding run_of leads_of well_formed ring_of table_words record_words run_from has_leader leader_of move dec_lt ℕ_discrete
+unfolding run_of leads_of well_formed ring_of table_words record_words run_from has_leader leader_of move dec_lt
+    ℕ_discrete
 ring59 = record {
   run = refl;
   counts = refl;
