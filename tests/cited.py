@@ -24,7 +24,7 @@ PROMISES = ROOT / "docs" / "PROMISES.md"
 SETTLED = "## Any two outcomes are equal"
 # its functions tell only whether they could print, and are lent nothing to write
 NOTHING_TO_SETTLE = {"say"}
-# a crate whose functions have the clauses of another's, by which they are settled
+# a crate whose functions have the clauses of another's, by whose theorems they are settled
 SETTLED_BY = {"hub_c": "hub"}
 FOLDERS = ("tests/", "docs/", "tools/", "include/", "examples/", ".ci/")
 PATHS = ("crates/", *FOLDERS)
@@ -251,6 +251,14 @@ def settled_faults():
                     for crate, name in theorems if (crate, name) not in cited]
 
 
+def clause_faults():
+    """What another crate's theorems settle has the clauses of its namesake there."""
+    names = [(name.split("::")[1:], crate) for crate in SETTLED_BY for name in public_functions(crate)]
+    pairs = [(code_part(crate, *name), code_part(SETTLED_BY[crate], *name)) for name, crate in names]
+    return [(file.path, part.line, f"{part.name} has other clauses than in {SETTLED_BY[file.crate]}")
+            for (file, part), twin in pairs if not twin or part.clauses != twin[1].clauses]
+
+
 def spans():
     """Every span of the papers."""
     return [span for paper in papers() for _, line in prose(paper) for span in SPAN.findall(line)]
@@ -279,7 +287,7 @@ def report(faults, said):
 
 def main():
     faults = [fault for paper in papers() for fault in paper_faults(paper)]
-    faults += fenced_faults() + source_faults() + edit_faults() + settled_faults()
+    faults += fenced_faults() + source_faults() + edit_faults() + settled_faults() + clause_faults()
     return report(faults, f"{len(papers())} papers: all that they cite is there")
 
 

@@ -219,7 +219,8 @@ class Part:
         self.public = access == "pub "
         self.imports = imports(line, piece.strip()) if "use" in self.kind else []
         self.given = [part.split(": ", 1) for part in listed(GIVEN_TO.search(plain)[1])] if self.kind == "fn" else []
-        named = {word for contract in CONTRACT.findall(plain) for word in tokens(contract)}
+        self.clauses = CONTRACT.findall(plain)
+        named = {word for contract in self.clauses for word in tokens(contract)}
         self.contract = named - {name for name, _ in self.given}
         self.asks = re.search(r"^\s*requires\b", plain, re.M) is not None
         self.paths = CODE_PATH.findall(CONTRACT.sub("", plain))
