@@ -7,10 +7,16 @@ In backticks, the names of crates being those of crates.txt:
     crate/File, crate/File: name, name      its definitions in specs/File.antt
     crate/proofs/File: name, name           its laws in proofs/File.antt
     crate::name, crate::module::name        its code; a signature may follow, (&mut [u32], u32)
+    crate::Type::name                       a function of an impl of the type, or of a trait; a case of an enum
+    crate::Type::from(Source)               a conversion: Source as behind From or TryFrom in the head of its impl
     crate/src/file.rt, tests/model.py       a file or a folder
 
+A function of an impl whose type is of another crate or of the language has the crate that it stands in before its type:
+gateway::u32::from(State).
+
 In emphasis, *crate/name* is the edit must-fail/name.edit of a crate. docs/PROMISES.md has nothing else in backticks and
-cites every edit; its section of settled outcomes has every public function beside a theorem that settles it.
+cites every edit; its section of settled outcomes has every public function beside a theorem that settles it. Public are
+also the pub functions of an impl of a public type, and all those of an impl of a trait for one.
 """
 
 import functools
@@ -22,22 +28,20 @@ from tree import ROOT, crates, shown, text
 
 PROMISES = ROOT / "docs" / "PROMISES.md"
 SETTLED = "## Any two outcomes are equal"
-# its functions tell only whether they could print, and are lent nothing to write
-NOTHING_TO_SETTLE = {"say"}
 # a crate whose functions have the clauses of another's, by whose theorems they are settled
 SETTLED_BY = {"hub_c": "hub"}
 FOLDERS = ("tests/", "docs/", "tools/", "include/", "examples/", ".ci/")
 PATHS = ("crates/", *FOLDERS)
 SINGLE = {"./elect", "README.md", "crates.txt"}
 # papers of their time: what they name may be gone
-OLD = "docs/landings/"
+OLD = ("docs/landings/", "docs/DESIGN-PASS.md")
 
 SPAN = re.compile(r"`([^`]+)`")
 EMPHASIS = re.compile(r"(?<![*\w])\*(?![*\s])([^*]+)(?<!\s)\*(?![*\w])")
 LINK = re.compile(r'(?:\]\(|src="|href=")([^)"\s]+)')
 LAW = re.compile(r"([a-z]\w*)/(proofs/(?:\w+/)*)?([A-Z]\w*)(?:: (.+))?")
 CODE = re.compile(r"([a-z]\w*)((?:::\w+)+)(?:\((.*)\))?")
-LOOKS_CITED = re.compile(r"[a-z]\w*(?:/proofs/|/[A-Z]\w*: |::[a-z])")
+LOOKS_CITED = re.compile(r"[a-z]\w*(?:/proofs/|/[A-Z]\w*: |::\w)")
 EDIT = re.compile(r"([a-z]\w*)/(\w+)")
 EDIT_ALONE = re.compile(r"[a-z0-9]+(_[a-z0-9]+)+")
 IN_SOURCE = re.compile(r"(?<![\w/.$}*-])((?:crates|tests|docs|tools|include|examples|\.ci)/[\w./-]*\w)")
@@ -80,21 +84,56 @@ def law_faults(law):
     return [f"no name {name} in {shown(path)}" for name in law_names(law) if name not in there]
 
 
-def code_part(crate, *names):
-    """What a path of code names: the file and the part of it, or None."""
+def own_part(crate, *names):
+    """What a path of code names in a module: the file and the part of it, or None."""
     *modules, name = names
     file = tree.code().get((crate, "::".join(modules)))
     if file and name in file.declared:
         return file, file.declared[name]
-    passed_on = file.passed_on.get(name) if file and not modules else None
-    return code_part(crate, *passed_on) if passed_on else None
+    passed_on = file.absolute([name]) if file and name in file.passed_on else None
+    return own_part(*passed_on) if passed_on and len(passed_on) > 1 else None
+
+
+def type_of(file, path):
+    """A type or a trait that a file names: crate, module and name where it is of the same crate, else the path."""
+    whole = file.absolute(path.split("::"))
+    found = own_part(*whole) if whole and len(whole) > 1 else None
+    return (file.crate, found[0].module, found[1].name) if found and found[0].crate == file.crate else path
+
+
+@functools.lru_cache(maxsize=None)
+def members(crate):
+    """The functions of a crate's blocks, by the type of each and its name: the file and the part of it."""
+    files = [file for file in tree.code().values() if file.crate == crate]
+    blocks = [(file, block) for file in files for block in file.blocks]
+    return {(type_of(file, block.type), part.own): (file, part) for file, block in blocks for part in block.functions}
+
+
+def code_part(crate, *names):
+    """What a path of code names: the file and the part of it, or None; of the case of an enum, the enum."""
+    *owner, name = names
+    found = own_part(crate, *names)
+    if found or not owner:
+        return found
+    found = own_part(crate, *owner)
+    if not found:
+        return members(crate).get(("::".join(owner), name))
+    file, part = found
+    case = found if part.kind == "enum" and name in part.members else None
+    return members(file.crate).get(((file.crate, file.module, part.name), name), case)
+
+
+def cited_part(code):
+    """What a citation of code names; the name of a conversion has brackets."""
+    *owner, name = code[2].split("::")[1:]
+    return code_part(code[1], *owner, f"{name}({code[3]})") or code_part(code[1], *owner, name)
 
 
 def code_faults(code):
-    found = code_part(code[1], *code[2].split("::")[1:])
+    found = cited_part(code)
     if not found:
-        return [f"no {code[1]}{code[2]} in crates/{code[1]}/src"]
-    if code[3] is None:
+        return [f"no {code[0]} in crates/{code[1]}/src"]
+    if code[3] is None or "(" in found[1].name:
         return []
     types = [kind for _, kind in found[1].given]
     return [] if types == tree.listed(code[3]) else [f"{code[1]}{code[2]} takes ({', '.join(types)})"]
@@ -214,19 +253,37 @@ def settled_rows():
 
 def libraries():
     """The crates whose public functions are to be settled."""
-    found = [crate for crate in crates() if (ROOT / "crates" / crate / "src" / "lib.rt").is_file()]
-    return [crate for crate in found if crate not in NOTHING_TO_SETTLE]
+    return [crate for crate in crates() if (ROOT / "crates" / crate / "src" / "lib.rt").is_file()]
+
+
+def offered(crate):
+    """What a crate offers in its modules, by path: the file and the part of it."""
+    public = [part.name for part in tree.code()[crate, ""].parts if part.kind == "mod" and part.public]
+    files = [tree.code()[crate, module] for module in ["", *public]]
+    names = [(file, part.name) for file in files for part in file.parts if part.public and not part.block]
+    names += [(file, name) for file in files for name in file.passed_on]
+    paths = [[crate, *filter(None, [file.module]), name] for file, name in names]
+    return {"::".join(path): own_part(*path) for path in paths if own_part(*path)}
+
+
+@functools.lru_cache(maxsize=None)
+def functions(crate):
+    """The functions that another crate can call or has to write, by path: the file and the part of it."""
+    parts = offered(crate)
+    types = {(file.crate, file.module, part.name): path for path, (file, part) in reversed(parts.items())}
+    found = {path: pair for path, pair in parts.items() if pair[1].kind == "fn"}
+    for (owner, name), (file, part) in members(crate).items():
+        named = {type_of(file, path) for path, _ in part.block.paths}
+        hidden = [at for at in named if isinstance(at, tuple) and at not in types]
+        unseen = part.block.kind == "trait" and owner not in types
+        if part.public and not hidden and not unseen:
+            found[f"{types.get(owner) or f'{crate}::{owner}'}::{name}"] = file, part
+    return found
 
 
 def public_functions(crate):
-    """The functions that a library crate offers, as `crate::name` or `crate::module::name`."""
-    file = tree.code()[crate, ""]
-    modules = [part.name for part in file.declared.values() if part.kind == "mod" and part.public]
-    names = [f"{crate}::{part.name}" for part in file.declared.values() if part.kind == "fn" and part.public]
-    passed_on = [(name, code_part(crate, name)) for name in file.passed_on]
-    names += [f"{crate}::{name}" for name, found in passed_on if found and found[1].kind == "fn"]
-    return names + [f"{crate}::{module}::{part.name}" for module in modules
-                    for part in tree.code()[crate, module].declared.values() if part.kind == "fn" and part.public]
+    """The functions that a library crate offers, as they are cited; what a trait only asks for is none."""
+    return [name for name, (_, part) in functions(crate).items() if part.body]
 
 
 def laws_of(row):
@@ -235,18 +292,26 @@ def laws_of(row):
     return {(law[1], name) for law in laws for name in law_names(law)}
 
 
+def last(file):
+    """The declarations of an .antt file that no other of it uses."""
+    parts = file.declared.values()
+    return [part.name for part in parts
+            if not any(other.names(name) for other in parts if other != part for name in [part.name, *part.members])]
+
+
 def settled_faults():
     """Every public function stands in a row with a theorem that settles it, and every such theorem in a row."""
     rows = settled_rows()
     if not rows:
         return [(PROMISES, 0, f"no rows under '{SETTLED}'")]
-    pairs = {(span.partition("(")[0], crate) for row in rows for span in row for crate, _ in laws_of(row)}
+    pairs = {(name, crate) for row in rows for span in row for name in (span, span.partition("(")[0])
+             for crate, _ in laws_of(row)}
     offered = [(name, SETTLED_BY.get(crate, crate)) for crate in libraries() for name in public_functions(crate)]
     found = [(PROMISES, 0, f"{name} has no row with a theorem of {crate}/proofs/Settled under '{SETTLED}'")
              for name, crate in offered if (name, crate) not in pairs]
     cited = {law for row in rows for law in laws_of(row)}
     theorems = [(path.parent.parent.name, name) for path, file in tree.laws().items() if path.stem == "Settled"
-                for name in file.declared]
+                for name in last(file)]
     return found + [(PROMISES, 0, f"{crate}/proofs/Settled: {name} is not cited under '{SETTLED}'")
                     for crate, name in theorems if (crate, name) not in cited]
 
@@ -272,7 +337,7 @@ def laws_cited():
 
 def code_cited():
     """The parts of the code that the papers cite: crate, module and name."""
-    found = [code_part(code[1], *code[2].split("::")[1:]) for code in map(CODE.fullmatch, spans()) if code]
+    found = [cited_part(code) for code in map(CODE.fullmatch, spans()) if code]
     return {(file.crate, file.module, part.name) for file, part in filter(None, found)}
 
 

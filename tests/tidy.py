@@ -1,5 +1,6 @@
 #!/usr/bin/env python3
-"""Checks the tree as its next owner wants it: first lines, layout, folders, order, nothing unused; one line a fault.
+"""Checks the tree as its next owner wants it: first lines, layout, folders, order, short functions, nothing unused; one
+line a fault.
 
 A declaration of specs/ or proofs/ is used where a computed case, a proof that the checker asks for, a contract or a
 paper needs it, by itself or through others; a part of the code where a program, the C header or a paper does.
@@ -23,10 +24,16 @@ MEASURED = {".antt", ".rt", ".py", ".sh", ".c", ".h"}
 NO_TABS = {".antt", ".rt", ".py"}
 # what programs read and print, to the byte
 DATA = {"stdin", "stdout", "hub.txt"}
-# docs/PORT.md begins with commits
-BARE = {".gitignore", "PORT.md"}
+# of docs/, papers that begin with commits
+BARE = {".gitignore", "PORT.md", "DESIGN-PASS.md"}
+# of a function from its name to its last bracket, clauses left out; of loops, one in another is two
+MOST_LINES = 45
+MOST_LOOPS = 1
+MOST_NESTED = 3
 # std's traits whose methods are called: importing one is what makes them known
 METHODS = {"Read": "read", "Write": "write_all|flush"}
+# what is called to convert, and the function that is run
+CONVERTS = {"into": "from", "try_into": "try_from"}
 # their laws are cases that are computed: nothing uses them
 COMPUTED = {"Examples", "Conditions", "Cards"}
 # what they say of a function's goals is what the checker asks for
@@ -124,7 +131,7 @@ def rank(name, own):
 
 def import_order_faults():
     files = [(path, file.imports) for path, file in tree.laws().items()]
-    files += [(file.path, file.ghosts) for file in tree.code().values()]
+    files += [(file.path, ghosts) for file in tree.code().values() for ghosts, _ in ghost_uses(file)]
     found = []
     for path, names in files:
         ranks = [rank(name, path.relative_to(ROOT).parts[1]) for name in names]
@@ -133,34 +140,86 @@ def import_order_faults():
     return found
 
 
-def requires_faults():
-    """No function that another crate can call asks anything of its caller."""
-    libraries = [crate for crate in tree.crates() if (crate, "") in tree.code()]
-    names = [name.split("::") for crate in libraries for name in cited.public_functions(crate)]
-    parts = [cited.code_part(*name) for name in names]
-    return [(file.path, part.line, f"{part.name} is public and has a requires") for file, part in parts if part.asks]
+def function_faults():
+    """No function that another crate can call asks anything of its caller or says nothing of what it gives."""
+    pairs = [pair for crate in tree.crates() if (crate, "") in tree.code() for pair in cited.functions(crate).values()]
+    found = [(file, part, "is public and has a requires") for file, part in pairs if part.asks]
+    found += [(file, part, "is public and has no contract") for file, part in pairs
+              if not part.gives and not (part.block and part.block.kind == "impl" and part.block.contract)]
+    return [(file.path, part.line, f"{part.name} {what}") for file, part, what in found]
 
 
-def contracts(file):
-    """The names in the contracts of an .rt file."""
-    return set().union(*[part.contract for part in file.declared.values()])
+def nested(body):
+    """How deep the blocks of a body are that are run on a condition, again, or in a closure."""
+    most, at, inside = 0, 0, []
+    for mark in re.finditer(r"[{};]", body):
+        if mark[0] == "{":
+            inside.append(re.search(r"\b(?:for|while|loop|match|if|else)\b|\|", body[at:mark.start()]) is not None)
+            most = max(most, sum(inside))
+        elif mark[0] == "}":
+            inside = inside[:-1]
+        at = mark.end()
+    return most
+
+
+def size_faults():
+    found = []
+    for file, part in [(file, part) for file in tree.code().values() for part in file.parts if part.kind == "fn"]:
+        loops = len(re.findall(r"\b(?:for|while|loop)\b", part.body))
+        counts = [(part.lines, MOST_LINES, "lines"), (loops, MOST_LOOPS, "loops"),
+                  (nested(part.body), MOST_NESTED, "blocks in each other")]
+        found += [(file.path, part.line, f"{part.name} has {count} {what}, at most {most}")
+                  for count, most, what in counts if count > most]
+    return found
+
+
+def twice_faults():
+    """No two parts of a file have one name: this script could not tell them apart."""
+    found = [(file, part) for file in tree.code().values() for part in file.parts if part != file.declared[part.name]]
+    return [(file.path, part.line, f"{part.name} is declared twice") for file, part in found]
+
+
+def ghost_uses(file):
+    """What a file and each of its blocks import for clauses, with the names in the clauses that see it."""
+    return [(file.ghosts, file.words()), *[(block.ghosts, block.words()) for block in file.blocks]]
 
 
 def brings_method(file, name):
-    """Whether an import is a trait whose methods the file calls."""
+    """Whether an import is a trait whose functions the file calls."""
     methods = METHODS.get(name.called)
-    return methods is not None and re.search(rf"\.(?:{methods})\(", text(file.path)) is not None
+    found = code_found(file, [name.called])
+    if found and found[1].kind == "trait":
+        trait = (found[0].crate, found[0].module, found[1].name)
+        methods = "|".join(own for owner, own in cited.members(trait[0]) if owner == trait)
+    return methods is not None and re.search(rf"(?:\.|::)(?:{methods})\(", text(file.path)) is not None
+
+
+def heads(file):
+    """What the paths of a file begin with, and what its clauses name of the code."""
+    paths = [path for part in file.parts for path, follows in part.paths if part.names(path, follows)]
+    paths += [path for block in file.blocks for path, _ in block.paths]
+    ghosts = {name.called for names, _ in ghost_uses(file) for name in names}
+    return {path.split("::")[0] for path in paths} | file.words() - ghosts
 
 
 def code_import_faults():
     found = []
     for file in tree.code().values():
-        heads = {path.split("::")[0] for part in file.declared.values() for path, follows in part.paths
-                 if "::" in path or follows == "(" or not path.islower()}
-        found += [(file.path, name.line, name) for name in file.imports
-                  if name.called not in heads and name.called not in file.passed_on and not brings_method(file, name)]
-        found += [(file.path, name.line, name) for name in file.ghosts if not tree.occurs(name.called, contracts(file))]
-    return [(path, line, f"{name.called} is imported and not used") for path, line, name in found]
+        named = {*heads(file), *file.passed_on}
+        idle = [name for name in file.imports if name.called not in named and not brings_method(file, name)]
+        uses = ghost_uses(file)
+        idle += [name for names, words in uses for name in names if not tree.occurs(name.called, words)]
+        found += [(file.path, name.line, f"{name.called} is imported and not used") for name in idle]
+        again = [name for names in [file.imports, file.ghosts] for name in repeated(names)]
+        again += [name for block in file.blocks for name in repeated(block.ghosts, file.ghosts)]
+        found += [(file.path, name.line, f"{name.called} is imported already") for name in again]
+    return found
+
+
+def repeated(names, known=()):
+    """The imports that an earlier one, or one of the known, has brought."""
+    called = [name.called for name in (*known, *names)]
+    return [name for at, name in enumerate(names, len(known)) if name.called in called[:at]]
 
 
 def script_import_faults():
@@ -245,8 +304,9 @@ def law_roots():
         if path.stem in FOR_GOALS:
             found |= {(path, part.name) for part in file.declared.values() if part.public and "goal" in part.words}
     for file in tree.code().values():
-        named = [name for name in file.ghosts if name.file() and tree.occurs(name.called, contracts(file))]
-        found |= {owner(name.file(), name.name) for name in named}
+        named = [name for names, words in ghost_uses(file) for name in names if tree.occurs(name.called, words)]
+        found |= {owner(name.file(), name.name) for name in named if name.file()}
+        found |= {owner(path, name) for path, name in file.laws() if path in tree.laws()}
     return found - {None}
 
 
@@ -277,44 +337,83 @@ def law_faults():
             for (path, name), what in unused(targets, law_roots())]
 
 
-def absolute(file, names):
-    """A path of code from its crate on, or None where it begins with no import, module, crate or part of the file."""
-    imported = {name.called: name.whole() for name in file.imports}
-    if names[0] in imported:
-        names = imported[names[0]] + names[1:]
-    elif names[0] in file.declared and file.declared[names[0]].kind != "mod":
-        return [file.crate, *filter(None, [file.module]), *names]
-    if names[0] == "crate":
-        return [file.crate, *names[1:]]
-    if not file.module and names[0] in file.declared:
-        return [file.crate, *names]
-    return names if names[0] in tree.crates() else None
-
-
-def code_target(file, path, follows):
-    """The part of the code that a path in a file names: crate, module and name."""
-    whole = absolute(file, path.split("::"))
-    if not whole or len(whole) < 2 or follows == ":" and "::" not in path:
+def code_found(file, names):
+    """What the beginning of a path in a file names: the file and the part of it, or None."""
+    whole = file.absolute(names)
+    if not whole or len(whole) < 2:
         return None
     inner = 2 if tuple(whole[:2]) in tree.code() else 1
-    found = cited.code_part(whole[0], *whole[1:inner + 1]) if len(whole) > inner else None
-    if not found or found[1].kind == "mod" or found[1].kind == "fn" and follows != "(":
-        return None
-    return found[0].crate, found[0].module, found[1].name
+    return cited.own_part(whole[0], *whole[1:inner + 1]) if len(whole) > inner else None
+
+
+def functions_named(crate, name, is_of):
+    """The functions of a name in the blocks of a crate and of those that it stands on, of the types that fit."""
+    pairs = [pair for below in [crate, *tree.floors().get(crate, ())] for pair in cited.members(below).items()]
+    return {(file.crate, file.module, part.name) for (of, own), (file, part) in pairs
+            if own.partition("(")[0] == name and is_of(of)}
+
+
+def path_targets(file, part, path, follows):
+    """What a path in a part names: the part that it begins with, the function of a type that it goes on to."""
+    names = path.split("::")
+    block = part.block
+    if names[0] == "Self" and block:
+        names = [*block.type.split("::"), *names[1:]]
+    found = code_found(file, names)
+    if follows == ":" and "::" not in path or found and found[1].kind == "fn" and not part.names(path, follows):
+        return set()
+    targets = {(found[0].crate, found[0].module, found[1].name)} if found and found[1].kind != "mod" else set()
+    if len(names) > 1 and names[0] in {*part.generics, *(block.bound if block else ())}:
+        return targets | functions_named(file.crate, names[1], lambda of: True)
+    # a type of another crate stands by its name where its impl is
+    return targets | functions_named(file.crate, names[-1], lambda of: of in targets or of == "::".join(names[:-1]))
+
+
+def method_targets(file, part):
+    """What a part calls on a value, and what converts for it: all that its calls could mean."""
+    of_self = cited.type_of(file, part.block.type) if part.block else None
+    words = set(re.findall(r"\w+", text(file.path)))
+    found = set()
+    for on_self, name in part.called_on:
+        own = functions_named(file.crate, name, lambda of: of == of_self) if on_self else set()
+        found |= own or functions_named(file.crate, name, lambda of: True)
+        # a type of the language may be converted to without being named
+        found |= functions_named(file.crate, CONVERTS.get(name), lambda of: isinstance(of, str) or of[2] in words)
+    if part.passes_on:
+        named = {path.split("::")[0] for path, _ in part.paths}
+        found |= functions_named(file.crate, "from", lambda of: isinstance(of, tuple) and of[2] in named)
+    return found
+
+
+def trait_targets(file, part):
+    """Of a type, the functions by which it has a trait of others, conversions apart; of a function, its trait's."""
+    at = (file.crate, file.module, part.name)
+    if part.block and part.block.trait:
+        found = code_found(file, part.block.trait.split("::"))
+        trait = found and (found[0].crate, found[0].module, found[1].name)
+        return functions_named(file.crate, part.own, lambda of: of == trait)
+    return {(other.crate, other.module, function.name) for (of, own), (other, function) in cited.members(at[0]).items()
+            if of == at and function.block.trait and own.partition("(")[0] not in CONVERTS.values()
+            and not code_found(other, function.block.trait.split("::"))}
 
 
 def code_targets(file, part):
-    found = {code_target(file, path, follows) for path, follows in part.paths}
-    return found - {None, (file.crate, file.module, part.name)}
+    ghosts = {name.called for names, _ in ghost_uses(file) for name in names}
+    said = part.contract | (part.block.contract if part.block else set())
+    found = {target for path, follows in part.paths for target in path_targets(file, part, path, follows)}
+    found |= {target for word in said - ghosts for target in path_targets(file, part, word, "")
+              if tree.code()[target[:2]].declared[target[2]].kind != "fn"}
+    found |= method_targets(file, part) | trait_targets(file, part)
+    return found - {(file.crate, file.module, part.name)}
 
 
 def code_roots():
     """The programs, what C calls, what a paper cites, the types that definitions speak of."""
     header = set(re.findall(r"\bthk_\w+", text(HEADER)))
     told = [tree.DECLARED.match(name.path) for file in tree.laws().values() for name in file.imports]
-    types = {(match[1], match[2]) for match in told if match}
+    types = {(match[1], match[2][1:].replace(".", "::"), match[3]) for match in told if match}
     names = [(*at, name) for at, file in tree.code().items() for name in file.declared]
-    found = {(crate, module, name) for crate, module, name in names if name in header or (crate, name) in types}
+    found = {at for at in names if at[2] in header or at in types}
     programs = {(file.crate, "", "main") for file in tree.code().values() if file.path.stem == "main"}
     return found | programs | cited.code_cited()
 
@@ -330,7 +429,8 @@ def main():
     sources = [path for path in papers_and_sources() if kind(path) in FIRST or path.name in BARE]
     faults = first_line_faults() + folder_faults() + [fault for path in sources for fault in layout_faults(path)]
     faults += law_import_faults() + code_import_faults() + script_import_faults() + include_faults()
-    faults += import_order_faults() + requires_faults() + law_faults() + code_faults()
+    faults += import_order_faults() + function_faults() + size_faults() + twice_faults()
+    faults += law_faults() + code_faults()
     return cited.report(faults, f"{len(sources)} files: nothing untidy, nothing that is not used")
 
 

@@ -1,7 +1,7 @@
 """The files of the tree, and what those of the crates declare, import and name.
 
 It knows the layout that the house's formatter leaves, and no grammar: a declaration begins at the margin of its file
-or module, and what belongs to it is indented or closes a bracket.
+or module, or of the impl or the trait that it stands in, and what belongs to it is indented or closes a bracket.
 """
 
 import functools
@@ -27,15 +27,23 @@ GIVEN = re.compile(rf"([{{;]\s*){NAME}(?=\s=\s)")
 USE = re.compile(r"use\s+(\S+?)(?:(?:\.|::)\{(.*)\}|\s+as\s+(\S+?))?;?$", re.S)
 MODULE_HEAD = re.compile(r"module\s.*\swhere", re.S)
 MODULE = re.compile(r"Rattle\.(\w+)\.((?:specs|proofs)\..+)")
-DECLARED = re.compile(r"Rattle\.(\w+)\.specs\.declared\.(\w+)")
+DECLARED = re.compile(r"Rattle\.(\w+)\.specs\.declared((?:\.[a-z]\w*)*)\.([A-Z]\w*)")
 
-CODE_ITEM = re.compile(r'(pub |pub\(crate\) )?(?:extern "C" |const (?=fn))?'
-                       r'(ghost use|use|mod|fn|const|static|type|struct|enum) (\w+)')
+CODE_ITEM = re.compile(r'(pub |pub\(crate\) )?(?:unsafe |extern +|const (?=fn))*'
+                       r"(ghost use|use|mod|fn|const|static|type|struct|enum|trait|impl|ghost)\b ?(\w*)")
 # a path that is no field and no method, and what follows it: an argument, a type
 CODE_PATH = re.compile(r"(?<![\w'])(?<!(?<!\.)\.)([A-Za-z_]\w*(?:::[A-Za-z_]\w*)*)\s*(\(|:(?!:))?")
-CODE_LEFT_OUT = re.compile(r'b?"(?:\\.|[^"\\])*"|//.*')
-CONTRACT = re.compile(r"^ +(?:requires|ensures)(?: \w+)? \{((?:[^{}]|\{[^{}]*\})*)\}", re.M)
-GIVEN_TO = re.compile(r"fn \w+(?:<.*?>)?\((.*?)\)\s*(?:->|\{|requires|ensures)", re.S)
+CALLED_ON = re.compile(r"(\bself)?(?<!\.)\.(\w+)(?:::<[^()]*>)?\(")
+# what a let, a for, a closure or an arm of a match binds
+CODE_BINDER = re.compile(r"\blet\b([^=;]*)=|\bfor\b(.*?)\bin\b|\|([^|(){};]*)\||^(.*)=>", re.M)
+CODE_LEFT_OUT = re.compile(r"""b?'(?:\\.|[^'\\])'|b?"(?:\\.|[^"\\])*"|//.*""")
+ATTRIBUTE = re.compile(r"^ *#!?\[.*?\]$", re.M | re.S)
+# the laws that an attribute tells a tactic of
+TOLD_OF = re.compile(r"\b(?:using|unfolding)\(([^()]*)\)")
+CLAUSE = re.compile(r"^ +(?:(?:requires|ensures)(?: \w+)?|ghost (\w+)(?: =|:)) (?=\{)", re.M)
+HEAD = re.compile(r"\b(?:fn \w+|trait \w+|impl\b)")
+MEMBER = re.compile(r"^ {4}(?:pub |pub\(crate\) |ghost )*(\w+)", re.M)
+ARROW_OR_ONE = re.compile(r"->|=>|.", re.S)
 
 
 def shown(path):
@@ -61,8 +69,14 @@ def text(path):
 @functools.lru_cache(maxsize=None)
 def crates():
     """The names of crates.txt."""
-    lines = text(ROOT / "crates.txt").splitlines()
-    return [line.partition(":")[0].split()[0] for line in lines if line and not line.startswith("#")]
+    return list(floors())
+
+
+@functools.lru_cache(maxsize=None)
+def floors():
+    """What each crate of crates.txt stands on."""
+    lines = [line.partition(":") for line in text(ROOT / "crates.txt").splitlines() if line and line[0] != "#"]
+    return {head.split()[0]: below.split() for head, _, below in lines}
 
 
 def tokens(line):
@@ -94,7 +108,7 @@ class Import:
 
     def whole(self):
         """The path of code that it stands for."""
-        return [*self.path.split("::"), *filter(None, [self.name])]
+        return [*self.path.split("::"), *(self.name.split("::") if self.name else ())]
 
 
 def imports(line, statement):
@@ -103,7 +117,7 @@ def imports(line, statement):
     if names is None:
         return [Import(line, path, None, whole or re.split(r"\.|::", path)[-1])]
     pairs = [name.split(" as ") for name in names.replace("\n", " ").split(",") if name.strip()]
-    return [Import(line, path, pair[0].strip(), pair[-1].strip()) for pair in pairs]
+    return [Import(line, path, pair[0].strip(), pair[-1].strip().split("::")[-1]) for pair in pairs]
 
 
 def left_side(line):
@@ -111,6 +125,12 @@ def left_side(line):
     side, equals, _ = (line + " ").partition(" = ")
     inside = side.count("(") - side.count(")") or side.count("{") - side.count("}")
     return "" if inside or not equals or {"let", "λ"} & set(side.split()) else side
+
+
+def in_type(line, before):
+    """Whether a line ends in the type of a let, whose equals sign is on a later one."""
+    _, let, rest = f" {line} ".rpartition(" let ")
+    return (before or bool(let) and " : " in rest) and " = " not in rest
 
 
 class Declaration:
@@ -129,8 +149,10 @@ class Declaration:
 
     def read(self, piece):
         self.bound.update(" ".join("".join(groups) for groups in BINDER.findall(piece)).split())
+        typed = False
         for line in piece.splitlines():
-            side = left_side(line)
+            side = "" if typed else left_side(line)
+            typed = in_type(line, typed)
             # a name alone has no patterns, and may be a field
             self.patterns |= tokens(side) if " " in side.strip() else set()
             self.words |= tokens(line[len(side):])
@@ -209,36 +231,156 @@ class Laws:
         return {**{name: part for part in self.declared.values() for name in part.members}, **self.declared}
 
 
-class Part:
-    """A function, a constant, a type or a module of an .rt file; given are a function's parameters with their types."""
-
-    def __init__(self, line, piece):
-        access, self.kind, self.name = CODE_ITEM.match(piece).groups()
-        plain = CODE_LEFT_OUT.sub("", piece)
-        self.line = line
-        self.public = access == "pub "
-        self.imports = imports(line, piece.strip()) if "use" in self.kind else []
-        self.given = [part.split(": ", 1) for part in listed(GIVEN_TO.search(plain)[1])] if self.kind == "fn" else []
-        self.clauses = CONTRACT.findall(plain)
-        named = {word for contract in self.clauses for word in tokens(contract)}
-        self.contract = named - {name for name, _ in self.given}
-        self.asks = re.search(r"^\s*requires\b", plain, re.M) is not None
-        self.paths = CODE_PATH.findall(CONTRACT.sub("", plain))
+def closed(piece, start, brackets="([{<)]}>"):
+    """Where the bracket that stands at a place is closed: the place behind it."""
+    half = len(brackets) // 2
+    depth = 0
+    for mark in ARROW_OR_ONE.finditer(piece, start):
+        depth += (mark[0] in brackets[:half]) - (mark[0] in brackets[half:])
+        if not depth:
+            return mark.end()
+    return len(piece)
 
 
 def listed(inside):
     """What commas part, none of them inside a bracket."""
-    return [part.strip() for part in re.split(r",(?![^\[]*\])", inside) if part.strip()]
+    found = [""]
+    depth = 0
+    for mark in ARROW_OR_ONE.findall(inside):
+        depth += (mark in "([{<") - (mark in ")]}>")
+        found[-1] += mark
+        if mark == "," and not depth:
+            found[-1] = found[-1][:-1]
+            found.append("")
+    return [" ".join(part.split()) for part in found if part.strip()]
 
 
-def parts(source):
+def signature(piece):
+    """The generic parameters of a function, an impl or a trait, and where they end."""
+    end = HEAD.search(piece).end()
+    behind = closed(piece, end) if piece[end:end + 1] == "<" else end
+    return piece[end:behind], behind
+
+
+def given(piece):
+    """The parameters of a function, each with its type; self is its own."""
+    start = signature(piece)[1]
+    pairs = [part.split(": ", 1) for part in listed(piece[start + 1:closed(piece, start) - 1])]
+    return [(re.split(r"[ &]", pair[0])[-1], pair[-1]) for pair in pairs]
+
+
+def clauses(piece):
+    """The requires, the ensures and the ghosts of a piece: the name of each ghost, what it says; and what is left."""
     found = []
-    for number, line in enumerate(source.splitlines(), 1):
-        if CODE_ITEM.match(line):
-            found.append([number, line])
-        elif found and not line.startswith(("//", "#[")):
-            found[-1][1] += "\n" + line
-    return [Part(*pair) for pair in found]
+    rest = ""
+    at = 0
+    for head in CLAUSE.finditer(piece):
+        end = closed(piece, head.end(), "{}")
+        found.append((head[1], piece[head.end() + 1:end - 1]))
+        rest += piece[at:head.start()]
+        at = end
+    return found, rest + piece[at:]
+
+
+def code_words(text, bound):
+    """The names in a clause that neither it nor what stands around it binds."""
+    own = {"self", "result", *bound, *" ".join("".join(groups) for groups in BINDER.findall(text)).split()}
+    return {word for word in tokens(text) if word.partition(".")[0] not in own}
+
+
+class Block:
+    """An impl or a trait: the type, the trait that it is of, with what, and what stands in it beside functions."""
+
+    def __init__(self, line, piece):
+        head, _, body = piece.partition("{")
+        self.line = line
+        self.kind = CODE_ITEM.match(piece)[2]
+        self.generics, start = signature(head)
+        parts = re.split(r" for (?!<)", re.split(r"\bwhere\b", head[start:])[0].strip())
+        self.trait, self.of = self.parted(parts[0]) if len(parts) > 1 else ("", "")
+        self.type = CODE_ITEM.match(piece)[3] if self.kind == "trait" else self.parted(parts[-1])[0]
+        # the line of the head stands above, empty
+        inner = pieces(textwrap.dedent("\n" * head.count("\n") + body.rpartition("}")[0]), line)
+        rest = "\n".join(piece for _, piece in inner if CODE_ITEM.match(piece)[2] not in ("fn", "ghost use"))
+        said, self.rest = clauses(textwrap.indent(rest, "    "))
+        self.rest = head[start:] + self.rest
+        ghosts = {name for name, _ in said} if self.kind == "trait" else set()
+        self.bound = {*ghosts, *re.findall(r"\w+", self.generics)}
+        self.contract = set().union(*[code_words(text, self.bound) for _, text in said])
+        self.paths = CODE_PATH.findall(self.rest)
+        self.functions = [Part(*pair, self) for pair in inner if CODE_ITEM.match(pair[1])[2] == "fn"]
+        uses = [Part(*pair) for pair in inner if CODE_ITEM.match(pair[1])[2] == "ghost use"]
+        self.ghosts = [name for part in uses for name in part.imports]
+
+    def parted(self, path):
+        """A type's or a trait's path, and its generic arguments; those of time are none."""
+        name = re.match(r"[\w:]+", path)
+        start = name.end() if name else len(path)
+        plain = [part for part in listed(path[start + 1:closed(path, start) - 1]) if part[0] != "'"]
+        return path[:start], ", ".join(plain)
+
+    def words(self):
+        """The names in its clauses and in those of its functions."""
+        return set().union(self.contract, *[part.contract for part in self.functions])
+
+
+class Part:
+    """A function, a constant, a type, a trait or a module of an .rt file.
+
+    A function of a block has its type's name before its own, and behind it in brackets what the trait is given:
+    `Shape::new`, `Told::from(Refusal)`. Given are its parameters with their types.
+    """
+
+    def __init__(self, line, piece, block=None):
+        access, self.kind, name = CODE_ITEM.match(piece).groups()
+        self.line = line
+        self.block = block
+        self.public = access == "pub " or block is not None and (block.kind == "trait" or block.trait != "")
+        self.imports = imports(line, piece.strip()) if "use" in self.kind else []
+        self.given = given(piece) if self.kind == "fn" else []
+        self.generics = re.findall(r"\w+", signature(piece)[0]) if self.kind == "fn" else []
+        self.members = MEMBER.findall(piece) if self.kind in ("struct", "enum") else []
+        self.own = f"{name}({block.of})" if block and block.of else name
+        self.name = f"{block.type}::{self.own}" if block else name
+        said, rest = clauses(piece)
+        self.clauses = [text for _, text in said]
+        bound = {*self.members, *self.generics, *[name for name, _ in self.given], *(block.bound if block else ())}
+        self.contract = set().union(*[code_words(text, bound) for text in self.clauses])
+        self.asks = re.search(r"^\s*requires\b", piece, re.M) is not None
+        self.gives = re.search(r"^\s*ensures\b", piece, re.M) is not None
+        self.read(rest)
+
+    def read(self, rest):
+        """What it names and binds, beside its clauses."""
+        self.lines = len(rest.strip().splitlines())
+        self.body = rest.partition("{")[2] if self.kind == "fn" else ""
+        self.paths = CODE_PATH.findall(rest) + (self.block.paths if self.block else [])
+        self.called_on = CALLED_ON.findall(rest)
+        self.passes_on = "?" in self.body
+        binders = " ".join("".join(groups) for groups in CODE_BINDER.findall(self.body))
+        self.bound = {*re.findall(r"\w+", binders), *[name for name, _ in self.given]}
+
+    def names(self, path, follows):
+        """Whether a path that it has names what is declared elsewhere: it is neither bound here nor a field."""
+        return "::" in path or follows == "(" or not path.islower() or not follows and path not in self.bound
+
+
+def pieces(source, line=1):
+    """What begins at the margin of code, with its line."""
+    found = []
+    for number, text in enumerate(source.splitlines(), line):
+        if CODE_ITEM.match(text):
+            found.append((number, text))
+        elif found:
+            found[-1] = (found[-1][0], found[-1][1] + "\n" + text)
+    return found
+
+
+def plain_code(source):
+    """Code without comments, strings and attributes, its lines where they were."""
+    for left_out in (ATTRIBUTE, CODE_LEFT_OUT):
+        source = left_out.sub(lambda found: "\n" * found[0].count("\n"), source)
+    return source
 
 
 class Code:
@@ -248,11 +390,45 @@ class Code:
         self.path = path
         self.crate = path.parent.parent.name
         self.module = "" if path.stem in ("lib", "main") else path.stem
-        found = parts(text(path))
-        self.declared = {part.name: part for part in found if "use" not in part.kind}
-        self.imports = [name for part in found if part.kind == "use" for name in part.imports]
-        self.ghosts = [name for part in found if part.kind == "ghost use" for name in part.imports]
-        self.passed_on = {name.called: name.whole() for part in found if part.public for name in part.imports}
+        found = pieces(plain_code(text(path)))
+        kinds = [CODE_ITEM.match(piece)[2] for _, piece in found]
+        self.blocks = [Block(*pair) for pair, kind in zip(found, kinds) if kind in ("impl", "trait")]
+        heads = [piece.partition("{")[0] if kind == "trait" else piece for (_, piece), kind in zip(found, kinds)]
+        parts = [Part(line, head) for (line, _), head, kind in zip(found, heads, kinds) if kind != "impl"]
+        self.parts = [part for part in parts if "use" not in part.kind]
+        self.parts += [part for block in self.blocks for part in block.functions]
+        self.declared = {part.name: part for part in self.parts}
+        self.imports = [name for part in parts if part.kind == "use" for name in part.imports]
+        self.ghosts = [name for part in parts if part.kind == "ghost use" for name in part.imports]
+        self.passed_on = [name.called for part in parts if part.public for name in part.imports]
+        attributes = "".join(ATTRIBUTE.findall(text(path)))
+        self.told_of = [name for names in TOLD_OF.findall(attributes) for name in listed(names)]
+
+    def absolute(self, names):
+        """A path of code from its crate on, or None where it begins with no import, module, crate or part of it."""
+        imported = {name.called: name.whole() for name in self.imports}
+        if names[0] in imported:
+            names = imported[names[0]] + names[1:]
+        elif names[0] in self.declared and self.declared[names[0]].kind != "mod":
+            return [self.crate, *filter(None, [self.module]), *names]
+        if names[0] == "crate":
+            return [self.crate, *names[1:]]
+        if not self.module and names[0] in self.declared:
+            return [self.crate, *names]
+        return names if names[0] in crates() else None
+
+    def words(self):
+        """The names in its clauses."""
+        blocks = [block.contract for block in self.blocks]
+        return set().union(*blocks, *[part.contract for part in self.parts])
+
+    def laws(self):
+        """The declarations of .antt files that its attributes name: file and name of each."""
+        found = set()
+        for path in self.told_of:
+            crate, *folders, name = path.replace("crate::", self.crate + "::").split("::")
+            found.add((ROOT.joinpath("crates", crate, *folders).with_suffix(".antt"), name))
+        return found
 
 
 @functools.lru_cache(maxsize=None)

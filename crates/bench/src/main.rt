@@ -1,4 +1,4 @@
-// The bench program: reads standard input and writes what report makes of it. What follows the longest input is not
+// The bench program: reads standard input and prints what report makes of it. What follows the longest input is not
 // read.
 
 #![tactic(auto)]
@@ -8,26 +8,24 @@ ghost use Rattle.std.specs.Prelude.{◌≤◌, length};
 use std::io;
 use std::io::{Read, Write};
 
-// Reads until `into` is full or nothing is left, and answers how many bytes came. A read that fails is the end too.
-fn read_full<R: Read>(from: &mut R, into: &mut [u8]) -> usize
-    ensures { result ≤ length into.old }
+/// Reads until `input` is full or nothing is left, and answers how many bytes came. A read that fails is the end too.
+fn fill(reader: &mut impl Read, input: &mut [u8]) -> usize
+    ensures { result ≤ length input.old }
 {
-    let mut got: usize = 0;
-    while got < into.len() {
-        match from.read(&mut into[got..]) {
+    let mut filled = 0;
+    while filled < input.len() {
+        match reader.read(&mut input[filled..]) {
             Ok(0) | Err(_) => break,
-            Ok(n) => got += n,
+            Ok(more) => filled += more,
         }
     }
-    got
+    filled
 }
 
 fn main(rt: HostRuntime) -> io::Result<()> {
-    let mut input = [0u8; report::INPUT];
-    let mut from = rt.stdin();
-    let got = read_full(&mut from, &mut input);
-    let mut out = [0u8; report::ROOM];
-    let length = report::text(&input[..got], &mut out);
-    let mut to = rt.stdout();
-    to.write_all(&out[..length])
+    let mut input = [0; report::INPUT];
+    let filled = fill(&mut rt.stdin(), &mut input);
+    let mut text = [0; report::ROOM];
+    let length = report::text(&input[..filled], &mut text);
+    rt.stdout().write_all(&text[..length])
 }

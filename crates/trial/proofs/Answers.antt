@@ -1,4 +1,5 @@
 -- What the bench program answers to an input, and what it prints of the answer. Assumes nothing.
+use Rattle.std.specs.Prelude.{Err, Ok, Option, Result}
 use Prim.Native.Nat.{ℕ, ◌+◌, ◌*◌, ◌-◌}
 use Prim.Native.Char.{code}
 use mathlib.Core.Path.{◌≡◌, refl, sym, ap, subst, ◌∙◌}
@@ -26,63 +27,61 @@ use Rattle.refusal.specs.declared.Refusal.TheVariants.{
   NoRoom,
   NoFrame,
 }
-use Rattle.refusal.specs.declared.Answer.{Answer}
-use Rattle.refusal.specs.declared.Answer.TheVariants.{Done, Refused}
 use Rattle.refusal.specs.Numbered.{numbered, told}
 use Rattle.refusal.proofs.Apart.{numbered_never_zero}
-use Rattle.words.specs.declared.Ran.{Ran}
-use Rattle.words.specs.declared.Leading.{Leading}
 use Rattle.words.specs.WellFormed.{well_formed}
 use Rattle.words.specs.Outcomes.{start_of, run_of, leads_of, run_told}
+use Rattle.words.specs.declared.Ran.{Ran}
+use Rattle.words.specs.declared.Leader.{Leader}
 use Rattle.words.proofs.Starts.{start_formed}
 use Rattle.words.proofs.GivenWhen.{run_exactly}
-use Rattle.trial.specs.declared.Asked.{Asked}
-use Rattle.trial.specs.Input.{identities_in, schedule_in, asked_of}
+use Rattle.trial.specs.Input.{identities_in, schedule_in, asked_of, a_ring}
 use Rattle.trial.specs.Trace.{Step, trace_of}
 use Rattle.trial.specs.Text.{ascii, digit, digits_in, labelled, refused_line, step_lines, end_line}
 use Rattle.trial.specs.Report.{budget, blank, run_text, start_text, asked_text, text_of}
+use Rattle.trial.specs.declared.Asked.{Asked}
 
 -- what is asked for is refused, or its start answers
-abbrev pub answer_by : Asked → List ℕ → Answer
-answer_by (Asked.Refused x) s = Refused x
-answer_by (Asked.Ring n c) s = (start_of blank (identities_in n s) c).0
+abbrev pub answer_by : Result Asked Refusal → List ℕ → Result Unit Refusal
+answer_by (Err x) s = Err x
+answer_by (Ok a) s = (start_of blank (identities_in a.count s) a.capacity).0
 
 -- what the bench program answers to an input
-abbrev pub answer_of : List ℕ → Answer
+abbrev pub answer_of : List ℕ → Result Unit Refusal
 answer_of s = answer_by (asked_of s) s
 
 -- a refusal prints its line
-pub refused_printed : (s : List ℕ) (x : Refusal) → answer_of s ≡ Refused x → text_of s ≡ refused_line x
+pub refused_printed : (s : List ℕ) (x : Refusal) → answer_of s ≡ Err x → text_of s ≡ refused_line x
 unfolding text_of
 refused_printed s x e = by_asked (asked_of s) e
   where
-    by_start : (n : ℕ) (o : Answer × List ℕ) → o.0 ≡ Refused x →
+    by_start : (n : ℕ) (o : Result Unit Refusal × List ℕ) → o.0 ≡ Err x →
         start_text o (schedule_in n s) (budget n) ≡ refused_line x
-    by_start n (Refused y, t) e = ap refused_line (let z : y ≡ x = cc in z)
-    by_start n (Done, t) e = absurd (true≢false cc)
+    by_start n (Err y, t) e = ap refused_line (let z : y ≡ x = cc in z)
+    by_start n (Ok x, t) e = absurd (true≢false cc)
 
-    by_asked : (a : Asked) → answer_by a s ≡ Refused x → asked_text a s ≡ refused_line x
-    by_asked (Asked.Refused y) e = ap refused_line (let z : y ≡ x = cc in z)
-    by_asked (Asked.Ring n c) e = by_start n (start_of blank (identities_in n s) c) e
+    by_asked : (a : Result Asked Refusal) → answer_by a s ≡ Err x → asked_text a s ≡ refused_line x
+    by_asked (Err y) e = ap refused_line (let z : y ≡ x = cc in z)
+    by_asked (Ok a) e = by_start a.count (start_of blank (identities_in a.count s) a.capacity) e
 
 -- the ring that s asks for is started, and the text is of its run
 pub record Starting (s : List ℕ) : Type 0 where
   pub count : ℕ
   pub capacity : ℕ
   pub table : List ℕ
-  pub asked : asked_of s ≡ Asked.Ring count capacity
-  pub started : (Done, table) ≡ start_of blank (identities_in count s) capacity
+  pub asked : asked_of s ≡ Ok (a_ring count capacity)
+  pub started : (Ok tt, table) ≡ start_of blank (identities_in count s) capacity
   pub printed : text_of s ≡ run_text table (schedule_in count s) (run_of table (schedule_in count s) (budget count))
 
 -- what is not refused is started and run
-pub done_printed : (s : List ℕ) → answer_of s ≡ Done → Starting s
+pub done_printed : (s : List ℕ) → answer_of s ≡ Ok tt → Starting s
 unfolding text_of
 done_printed s e = by_asked (asked_of s) refl e
   where
-    by_start : (n c : ℕ) → asked_of s ≡ Asked.Ring n c → (o : Answer × List ℕ) →
-        o ≡ start_of blank (identities_in n s) c → o.0 ≡ Done → Starting s
-    by_start n c q (Refused y, t) r e = absurd (true≢false cc)
-    by_start n c q (Done, t) r e =
+    by_start : (n c : ℕ) → asked_of s ≡ Ok (a_ring n c) → (o : Result Unit Refusal × List ℕ) →
+        o ≡ start_of blank (identities_in n s) c → o.0 ≡ Ok tt → Starting s
+    by_start n c q (Err y, t) r e = absurd (true≢false cc)
+    by_start n c q (Ok x, t) r e =
         record {
           count = n;
           capacity = c;
@@ -92,9 +91,10 @@ done_printed s e = by_asked (asked_of s) refl e
           printed = ap (λ a. asked_text a s) q ∙ ap (λ o. start_text o (schedule_in n s) (budget n)) (sym r);
         }
 
-    by_asked : (a : Asked) → asked_of s ≡ a → answer_by a s ≡ Done → Starting s
-    by_asked (Asked.Refused y) q e = absurd (true≢false cc)
-    by_asked (Asked.Ring n c) q e = by_start n c q (start_of blank (identities_in n s) c) refl e
+    by_asked : (a : Result Asked Refusal) → asked_of s ≡ a → answer_by a s ≡ Ok tt → Starting s
+    by_asked (Err y) q e = absurd (true≢false cc)
+    by_asked (Ok a) q e =
+        by_start a.count a.capacity q (start_of blank (identities_in a.count s) a.capacity) refl e
 
 -- the text tells the answer --
 
@@ -123,19 +123,19 @@ refused_line_number NoRoom = refl
 refused_line_number NoFrame = refl
 
 -- the text of a run that ended does not begin as a refusal's does
-ended_begins : (e k s : ℕ) (who : Leading) (steps : List Step) (x : Refusal) →
-    step_lines 1 steps ++ end_line e k s who ≡ refused_line x → ⊥
+ended_begins : (r : Ran) (who : Result (Option Leader) Refusal) (steps : List Step) (x : Refusal) →
+    step_lines 1 steps ++ end_line r who ≡ refused_line x → ⊥
 unfolding digits_in
-ended_begins e k s who [] x q = omega (arith, ap (λ l. get_or l 0 0) q)
-ended_begins e k s who (y ∷ l) x q = omega (arith, ap (λ l. get_or l 0 0) q)
+ended_begins r who [] x q = omega (arith, ap (λ l. get_or l 0 0) q)
+ended_begins r who (y ∷ l) x q = omega (arith, ap (λ l. get_or l 0 0) q)
 
 run_begins : (t schedule : List ℕ) (b : ℕ) (x : Refusal) → well_formed t ≡ true →
     run_text t schedule (run_of t schedule b) ≡ refused_line x → ⊥
 run_begins t schedule b x formed q = go (run_of t schedule b) refl q
   where
-    go : (r : Ran × List ℕ) → run_of t schedule b ≡ r → run_text t schedule r ≡ refused_line x → ⊥
-    go (Ran.Ended e k s, t') f q = ended_begins e k s (leads_of t') (trace_of t (take (k + s) schedule)) x q
-    go (Ran.Refused y, t') f q =
+    go : (r : Result Ran Refusal × List ℕ) → run_of t schedule b ≡ r → run_text t schedule r ≡ refused_line x → ⊥
+    go (Ok r, t') f q = ended_begins r (leads_of t') (trace_of t (take (r.taken + r.skipped) schedule)) x q
+    go (Err y, t') f q =
         let only = (run_exactly t schedule b).only in
         let zero = only.done (λ five. true≢false (sym formed ∙ only.five.0 five)) in
         omega (arith, zero, ap (λ r. (run_told r.0).number) f, numbered_never_zero y)
@@ -149,13 +149,14 @@ printed_exactly s x = go (answer_of s) refl
     run d q =
         let ids = identities_in d.count s in
         let formed : well_formed d.table ≡ true =
-        subst (λ (o : Answer × List ℕ). well_formed o.1 ≡ true) (sym d.started)
+        subst (λ (o : Result Unit Refusal × List ℕ). well_formed o.1 ≡ true) (sym d.started)
         (start_formed blank ids d.capacity (sym (ap (λ o. o.0) d.started))) in
         run_begins d.table (schedule_in d.count s) (budget d.count) x formed (sym d.printed ∙ q)
 
-    go : (a : Answer) → answer_of s ≡ a → (text_of s ≡ refused_line x) ↔ ((told a).number ≡ (numbered x).number)
-    go (Refused y) e = (
+    go : (a : Result Unit Refusal) → answer_of s ≡ a →
+        (text_of s ≡ refused_line x) ↔ ((told a).number ≡ (numbered x).number)
+    go (Err y) e = (
       λ q. sym (refused_line_number y) ∙ ap line_number (sym (refused_printed s y e) ∙ q) ∙ refused_line_number x,
       λ q. refused_printed s y e ∙ ap (λ k. labelled "refused " k ++ ascii "\n") q,
     )
-    go Done e = (λ q. absurd (run (done_printed s e) q), λ q. absurd (omega (arith, q, numbered_never_zero x)))
+    go (Ok y) e = (λ q. absurd (run (done_printed s e) q), λ q. absurd (omega (arith, q, numbered_never_zero x)))

@@ -1,4 +1,5 @@
 -- The bench program gives each refusal exactly when document 01 says, in its numbers. Assumes nothing.
+use Rattle.std.specs.Prelude.{Err, Ok, Result}
 use Prim.Native.Nat.{ℕ, ◌≤◌, ◌<◌}
 use mathlib.Core.Path.{◌≡◌, refl, sym, ap, subst, ◌∙◌}
 use mathlib.Core.Bool.{true}
@@ -9,28 +10,27 @@ use native.Mathlib.Omega.{arith}
 use lib.ListN.{length, get_or}
 use Rattle.refusal.specs.declared.Refusal.{Refusal}
 use Rattle.refusal.specs.declared.Refusal.TheVariants.{Count, Capacity, NoByte, UnknownKind, Cut}
-use Rattle.refusal.specs.declared.Answer.{Answer}
 use Rattle.refusal.specs.Numbered.{told}
-use Rattle.wire.specs.declared.Reading.TheVariants.{Refused}
 use Rattle.ring.specs.Identities.{Distinct, first_repeat}
 use Rattle.ring.proofs.Counting.{first_of}
 use Rattle.ring.proofs.Identity.{unrepeated_distinct, distinct_unrepeated}
-use Rattle.words.specs.declared.Size.TheVariants as Size
 use Rattle.words.specs.Layout.{most_processes, most_capacity, table_length}
 use Rattle.words.specs.Outcomes.{size_of, start_of}
 use Rattle.words.proofs.Ranges.{range_in, range_out, range_decided}
 use Rattle.words.proofs.GivenWhen.{InRange, exactly}
-use Rattle.trial.specs.declared.Asked.{Asked}
-use Rattle.trial.specs.Input.{count_in, capacity_in, identity_of, frames_from, identity_at, identities_in, asked_of}
-use Rattle.trial.specs.Report.{blank}
-use Rattle.trial.proofs.Asking.{
-  is_read,
-  read_is,
-  first_refused,
-  none_refused,
-  asked_short,
-  asked_by_parts,
+use Rattle.trial.specs.Input.{
+  count_in,
+  capacity_in,
+  identity_of,
+  frames_from,
+  identity_at,
+  identities_in,
+  asked_of,
+  a_ring,
 }
+use Rattle.trial.specs.Report.{blank}
+use Rattle.trial.specs.declared.Asked.{Asked}
+use Rattle.trial.proofs.Asking.{is_read, read_is, first_refused, none_refused, asked_short, asked_by_parts}
 use Rattle.trial.proofs.Answers.{answer_by, answer_of}
 use Rattle.trial.proofs.Started.{distinct_done, repeated_four}
 use Rattle.trial.proofs.Identities.{
@@ -94,10 +94,10 @@ module _ (s : List ℕ) where
   c = capacity_in s
 
   -- what is asked for decides
-  as_asked : (a : Asked) → a ≡ asked_of s → number ≡ (told (answer_by a s)).number
+  as_asked : (a : Result Asked Refusal) → a ≡ asked_of s → number ≡ (told (answer_by a s)).number
   as_asked a e = ap (λ x. (told (answer_by x s)).number) (sym e)
 
-  size_given : Sized s → size_of n c ≡ Size.Words (table_length n c)
+  size_given : Sized s → size_of n c ≡ Ok (table_length n c)
   size_given h = rw (range_in most_processes n h.1, range_in most_capacity c h.2)
 
   -- a frame that gives an identity is read
@@ -108,22 +108,22 @@ module _ (s : List ℕ) where
 
   -- a frame that gives none decides
   first_decides : (Fault : List ℕ → Type 0) (x : List ℕ → Refusal) →
-      ((f : List ℕ) → Fault f → identity_of f ≡ Refused (x f)) → Sized s → (w : First Fault s) →
-      number ≡ (told (Answer.Refused (x (frames_from s w.0)))).number
+      ((f : List ℕ) → Fault f → identity_of f ≡ Err (x f)) → Sized s → (w : First Fault s) →
+      number ≡ (told (Err (x (frames_from s w.0)))).number
   first_decides Fault x read h (i, below, before, fault) =
       as_asked _
-      (asked_by_parts s h.0 _ (Answer.Refused (x (frames_from s i))) (size_given h)
+      (asked_by_parts s h.0 _ (Err (x (frames_from s i))) (size_given h)
       (sym (first_refused n (identity_at s) i _ below (λ k b. whole_is_read k (before k b)) (read _ fault))))
 
   -- else a ring is asked for, and its start decides
-  ring_asked : Sized s → AllWhole s → Asked.Ring n c ≡ asked_of s
+  ring_asked : Sized s → AllWhole s → Ok (a_ring n c) ≡ asked_of s
   ring_asked h all =
-      asked_by_parts s h.0 _ Answer.Done (size_given h)
+      asked_by_parts s h.0 _ (Ok tt) (size_given h)
       (sym (none_refused n (identity_at s) (λ k b. whole_is_read k (all k b))))
 
-  start_decides : Sized s → AllWhole s → (a : Answer) → (start_of blank (identities s) c).0 ≡ a →
+  start_decides : Sized s → AllWhole s → (a : Result Unit Refusal) → (start_of blank (identities s) c).0 ≡ a →
       number ≡ (told a).number
-  start_decides h all a e = as_asked (Asked.Ring n c) (ring_asked h all) ∙ ap (λ x. (told x).number) e
+  start_decides h all a e = as_asked (Ok (a_ring n c)) (ring_asked h all) ∙ ap (λ x. (told x).number) e
 
   -- the reason for each number
   abbrev AskWhy : ℕ → Type 0
@@ -142,12 +142,12 @@ module _ (s : List ℕ) where
       k ⊥
 
   is_one : AskWhy 1 → number ≡ 1
-  is_one w = as_asked _ (asked_by_parts s w.0 (Size.Refused Count) _ (rw (range_out most_processes n w.1)) refl)
+  is_one w = as_asked _ (asked_by_parts s w.0 (Err Count) _ (rw (range_out most_processes n w.1)) refl)
 
   is_two : AskWhy 2 → number ≡ 2
   is_two w =
       as_asked _
-      (asked_by_parts s w.0 (Size.Refused Capacity) _
+      (asked_by_parts s w.0 (Err Capacity) _
       (rw (range_in most_processes n w.1, range_out most_capacity c w.2)) refl)
 
   is_eleven : AskWhy 11 → number ≡ 11

@@ -1,11 +1,11 @@
 -- The states that a printed step shows are those of the ring, before the move and after it. Assumes nothing.
+use Rattle.std.specs.Prelude.{Ok}
 use Prim.Native.Nat.{ℕ, ◌<◌}
 use mathlib.Core.Path.{◌≡◌, refl, sym, ap, subst, ◌∙◌}
 use mathlib.Core.Bool.{true}
 use mathlib.Core.List.{List}
 use native.Mathlib.Omega.{arith}
 use lib.ListN.{get_or}
-use Rattle.refusal.specs.declared.Answer.TheVariants.{Done}
 use Rattle.gateway.specs.Numbers.{state_number}
 use Rattle.ring.specs.Gateways.{gateways, proc_at}
 use Rattle.ring.proofs.Moves.{made_is}
@@ -34,7 +34,7 @@ pub record Shows (t t' : List ℕ) (j : ℕ) (s : Step) : Type 0 where
   pub before : s.before ≡ state_number (proc_at (ring_of t) j).state
   pub after : s.after ≡ state_number (proc_at (ring_of t') j).state
 
-pub step_shows : (t : List ℕ) (j : ℕ) (t' : List ℕ) → (Done, t') ≡ step_of t j → Shows t t' j (step_from t t' j)
+pub step_shows : (t : List ℕ) (j : ℕ) (t' : List ℕ) → (Ok tt, t') ≡ step_of t j → Shows t t' j (step_from t t' j)
 step_shows t j t' done =
     let s = step_done t j t' done in
     let below = (made_is gateways (count_of t) (capacity_of t) (ring_of t) j s.ring s.moves).0 in

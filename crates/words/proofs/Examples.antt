@@ -1,4 +1,5 @@
 -- Document 01's refusals, rows and named mistakes at small tables, computed. Assumes nothing.
+use Rattle.std.specs.Prelude.{None, Ok, Some}
 use Prim.Native.Nat.{ℕ}
 use mathlib.Core.Path.{◌≡◌, refl}
 use mathlib.Core.List.{List, [], ◌∷◌}
@@ -8,11 +9,10 @@ use Rattle.refusal.specs.Numbered.{tell}
 use Rattle.ring.specs.Ring.{move}
 use Rattle.ring.specs.Runs.{run_from}
 use Rattle.ring.specs.Gateways.{started, has_leader, leader_of}
-use Rattle.words.specs.declared.Ran.TheVariants.{Ended}
-use Rattle.words.specs.declared.Leading.TheVariants.{Leader, Nobody}
+use Rattle.ring.specs.declared.End.TheVariants.{Announced, Spent, UsedUp}
 use Rattle.words.specs.Table.{record_words, table_words, ring_of}
 use Rattle.words.specs.WellFormed.{well_formed}
-use Rattle.words.specs.Outcomes.{start_of, step_of, run_of, run_told, leads_of, lead_told}
+use Rattle.words.specs.Outcomes.{start_of, step_of, run_of, run_told, leads_of, lead_told, ended, leader}
 use Rattle.words.proofs.GivenWhen.{start_told, step_told}
 
 -- a start's refusals, each before those behind it
@@ -94,14 +94,14 @@ turns = 0 ∷ 1 ∷ 0 ∷ 1 ∷ 0 ∷ 1 ∷ 0 ∷ 1 ∷ 0 ∷ 1 ∷ 0 ∷ 1 ∷ 
 
 pub record Ring59 : Type 0 where
   pub run : (run_of start59 turns 24).1 ≡ end59
-  pub counts : (run_of start59 turns 24).0 ≡ Ended 1 13 2
-  pub leader : leads_of end59 ≡ Leader 0 9
-  pub nobody : leads_of start59 ≡ Nobody
+  pub counts : (run_of start59 turns 24).0 ≡ Ok (ended Announced 13 2)
+  pub leads : leads_of end59 ≡ Ok (Some (leader 0 9))
+  pub nobody : leads_of start59 ≡ Ok None
   -- a run's answer in numbers, and its other two ends
   pub turns_told : run_told (run_of start59 turns 24).0
       ≡ record { number = 0; place = 0; end = 1; taken = 13; skipped = 2 }
-  pub used_up : (run_of start59 (0 ∷ 1 ∷ []) 24).0 ≡ Ended 0 2 0
-  pub spent : (run_of start59 turns 2).0 ≡ Ended 2 2 0
+  pub used_up : (run_of start59 (0 ∷ 1 ∷ []) 24).0 ≡ Ok (ended UsedUp 2 0)
+  pub spent : (run_of start59 turns 2).0 ≡ Ok (ended Spent 2 0)
   -- in a refusal every value is 0
   pub run_refused : run_told (run_of (1 ∷ []) turns 24).0
       ≡ record { number = 5; place = 0; end = 0; taken = 0; skipped = 0 }
@@ -114,7 +114,7 @@ unfolding run_of leads_of well_formed ring_of table_words record_words run_from 
 ring59 = record {
   run = refl;
   counts = refl;
-  leader = refl;
+  leads = refl;
   nobody = refl;
   turns_told = refl;
   used_up = refl;
@@ -127,11 +127,11 @@ abbrev start7 : List ℕ
 start7 = 1 ∷ 1 ∷ 7 ∷ 0 ∷ 7 ∷ 0 ∷ 0 ∷ 0 ∷ 0 ∷ 0 ∷ []
 
 -- a budget spent with a byte left, and then an empty schedule: by themselves end 2 and end 0, together end 2
-pub record Spent : Type 0 where
-  pub first : (run_of start7 (0 ∷ 0 ∷ []) 1).0 ≡ Ended 2 1 0
-  pub then_nothing : (run_of (run_of start7 (0 ∷ 0 ∷ []) 1).1 [] 0).0 ≡ Ended 0 0 0
+pub record SpentFirst : Type 0 where
+  pub first : (run_of start7 (0 ∷ 0 ∷ []) 1).0 ≡ Ok (ended Spent 1 0)
+  pub then_nothing : (run_of (run_of start7 (0 ∷ 0 ∷ []) 1).1 [] 0).0 ≡ Ok (ended UsedUp 0 0)
 
-pub spent_then_nothing : Spent
+pub spent_then_nothing : SpentFirst
 unfolding run_of well_formed ring_of table_words record_words run_from has_leader move dec_lt ℕ_discrete
 spent_then_nothing = record { first = refl; then_nothing = refl }
 

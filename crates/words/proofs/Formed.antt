@@ -4,8 +4,8 @@ use mathlib.Core.Path.{◌≡◌, sym, ap, ◌∙◌}
 use mathlib.Core.Bool.{true}
 use mathlib.Core.List.{List, ◌++◌}
 use borrow.Author.Tests.{le-leb}
-use Rattle.gateway.specs.declared.Proc.{Proc}
-use Rattle.gateway.specs.declared.Msg.{Msg}
+use Rattle.gateway.specs.declared.Process.{Process}
+use Rattle.gateway.specs.declared.Message.{Message}
 use Rattle.ring.specs.Ring.{Ring, queue_of}
 use Rattle.ring.specs.Identities.{is_fresh}
 use Rattle.ring.specs.Gateways.{proc_at}
@@ -24,7 +24,8 @@ all_pass : (t : List ℕ) → long_ok t ≡ true → sizes_ok t ≡ true → ide
 unfolding well_formed
 all_pass t a b c d = rw (a, b, c, d)
 
-module _ (n c : ℕ) (R : Ring Proc Msg) (rest : List ℕ) (s : Sized n c) (g : Good n c R) (d : DistinctIn n R) where
+module _ (n c : ℕ) (R : Ring Process Message) (rest : List ℕ) (s : Sized n c) (g : Good n c R)
+    (d : DistinctIn n R) where
   abbrev table : List ℕ
   table = table_words n c R ++ rest
 
@@ -32,9 +33,9 @@ module _ (n c : ℕ) (R : Ring Proc Msg) (rest : List ℕ) (s : Sized n c) (g : 
       record_at table (capacity_of table) j ≡ record_words c (proc_at R j) (queue_of R j)
   record_is j h = rw (capacity_back n c R rest) (record_back n c R rest j h)
 
-  ident_is : (j : ℕ) → j < n → (proc_at R j).ident ≡ ident_at table j
+  ident_is : (j : ℕ) → j < n → (proc_at R j).identity ≡ ident_at table j
   ident_is j h =
-      sym (ap (λ (p : Proc). p.ident) (ap read_proc (record_is j h) ∙ proc_back c (proc_at R j) (queue_of R j)))
+      sym (ap (λ (p : Process). p.identity) (ap read_proc (record_is j h) ∙ proc_back c (proc_at R j) (queue_of R j)))
       ∙ ident_word table j
 
   pub words_formed : well_formed (table_words n c R ++ rest) ≡ true
@@ -46,7 +47,7 @@ module _ (n c : ℕ) (R : Ring Proc Msg) (rest : List ℕ) (s : Sized n c) (g : 
       (rw (cn, cc) (sized_both n c s))
       (rw cn
       (all_of (is_fresh (ident_at table)) n
-      (distinct_fresh (ident_at table) n (same_distinct n (λ j. (proc_at R j).ident) (ident_at table) ident_is d))))
+      (distinct_fresh (ident_at table) n (same_distinct n (λ j. (proc_at R j).identity) (ident_at table) ident_is d))))
       (rw cn
       (all_of (λ j. record_ok (capacity_of table) (record_at table (capacity_of table) j)) n
       (λ j h. rw (record_is j h, cc) (record_formed c (proc_at R j) (queue_of R j) (g.fitting j h)))))

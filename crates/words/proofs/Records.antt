@@ -9,8 +9,8 @@ use native.Mathlib.Omega.{arith}
 use lib.ListN.{length, get_or, drop}
 use lib.Dec.{eqb, leb-suc-suc}
 use borrow.Author.Tests.{leb-true, eqb-true, le-leb, le-ltb, lt-ltb}
-use Rattle.gateway.specs.declared.Proc.{Proc}
-use Rattle.gateway.specs.declared.Msg.{Msg}
+use Rattle.gateway.specs.declared.Process.{Process}
+use Rattle.gateway.specs.declared.Message.{Message}
 use Rattle.gateway.specs.Numbers.{state_number, last_state, kind_number, last_kind}
 use Rattle.gateway.proofs.Numbering.{state_back, state_number_of, state_small, kind_back, kind_number_of, kind_small}
 use Rattle.ring.proofs.Tests.{and_left, and_right}
@@ -21,12 +21,12 @@ use Rattle.words.specs.WellFormed.{state_ok, b_ok, length_ok, slot_ok, slots_ok,
 
 -- lengths --
 
-length_slots : (c : ℕ) (q : List Msg) → length (slot_words c q) ≡ 2 * c
+length_slots : (c : ℕ) (q : List Message) → length (slot_words c q) ≡ 2 * c
 length_slots zero q = refl
 length_slots (suc c) [] = omega (arith, length_slots c [])
 length_slots (suc c) (m ∷ q) = omega (arith, length_slots c q)
 
-pub length_record : (c : ℕ) (p : Proc) (q : List Msg) → length (record_words c p q) ≡ record_width c
+pub length_record : (c : ℕ) (p : Process) (q : List Message) → length (record_words c p q) ≡ record_width c
 unfolding record_words
 length_record c p q = omega (arith, length_slots c q)
 
@@ -36,16 +36,16 @@ length_read (suc n) s = ap suc (length_read n (drop 2 s))
 
 -- a record's words read back --
 
-pub proc_back : (c : ℕ) (p : Proc) (q : List Msg) → read_proc (record_words c p q) ≡ p
+pub proc_back : (c : ℕ) (p : Process) (q : List Message) → read_proc (record_words c p q) ≡ p
 unfolding record_words
 proc_back c p q = rw (state_back p.state, kind_back p.b)
 
-slots_back : (c : ℕ) (q : List Msg) → length q ≤ c → read_slots (length q) (slot_words c q) ≡ q
+slots_back : (c : ℕ) (q : List Message) → length q ≤ c → read_slots (length q) (slot_words c q) ≡ q
 slots_back c [] h = refl
 slots_back zero (m ∷ q) h = absurd (not-suc-le-zero h)
 slots_back (suc c) (m ∷ q) h = rw (kind_back m.kind, slots_back c q (le_of_suc-le-suc h))
 
-pub queue_back : (c : ℕ) (p : Proc) (q : List Msg) → length q ≤ c → read_queue (record_words c p q) ≡ q
+pub queue_back : (c : ℕ) (p : Process) (q : List Message) → length q ≤ c → read_queue (record_words c p q) ≡ q
 unfolding record_words
 queue_back c p q h = slots_back c q h
 
@@ -125,7 +125,8 @@ record_image c (x₀ ∷ x₁ ∷ x₂ ∷ x₃ ∷ x₄ ∷ l ∷ s) e ok =
 
 -- a record's words are well-formed --
 
-slots_formed : (c : ℕ) (q : List Msg) → length q ≤ c → (i : ℕ) → i < c → slot_ok (length q) (slot_words c q) i ≡ true
+slots_formed : (c : ℕ) (q : List Message) → length q ≤ c → (i : ℕ) → i < c →
+    slot_ok (length q) (slot_words c q) i ≡ true
 slots_formed zero q h i l = absurd (not-suc-le-zero l)
 slots_formed (suc c) [] h zero l = refl
 slots_formed (suc c) [] h (suc i) l =
@@ -136,7 +137,7 @@ slots_formed (suc c) (m ∷ q) h (suc i) l =
     next_filled m.value (kind_number m.kind) (slot_words c q) i (length q)
     ∙ slots_formed c q (le_of_suc-le-suc h) i (le_of_suc-le-suc l)
 
-pub record_formed : (c : ℕ) (p : Proc) (q : List Msg) → length q ≤ c → record_ok c (record_words c p q) ≡ true
+pub record_formed : (c : ℕ) (p : Process) (q : List Message) → length q ≤ c → record_ok c (record_words c p q) ≡ true
 unfolding record_words
 record_formed c p q h =
     rw (

@@ -6,8 +6,8 @@ use mathlib.Core.List.{List, [], ◌∷◌}
 use native.Mathlib.Omega.{arith}
 use lib.ListN.{length, take, drop}
 use borrow.Author.Tests.{leb-true}
-use Rattle.gateway.specs.declared.Proc.{Proc}
-use Rattle.gateway.specs.declared.Msg.{Msg}
+use Rattle.gateway.specs.declared.Process.{Process}
+use Rattle.gateway.specs.declared.Message.{Message}
 use Rattle.ring.specs.Ring.{Ring, queue_of}
 use Rattle.ring.specs.Identities.{DistinctBelow, is_fresh}
 use Rattle.ring.specs.Gateways.{starting, proc_at}
@@ -35,8 +35,8 @@ use Rattle.words.proofs.Records.{length_read, length_fits, record_image}
 use Rattle.words.proofs.Tables.{record_inside, record_length, record_word, past_head}
 
 -- no two processes of a ring have one identity
-abbrev pub DistinctIn : ℕ → Ring Proc Msg → Type 0
-DistinctIn n R = DistinctBelow n (λ j. (proc_at R j).ident)
+abbrev pub DistinctIn : ℕ → Ring Process Message → Type 0
+DistinctIn n R = DistinctBelow n (λ j. (proc_at R j).identity)
 
 -- a table that is the words of its ring, with what lies beyond behind
 pub record Sound (t : List ℕ) : Type 0 where
@@ -58,7 +58,7 @@ module _ (t : List ℕ) (j : ℕ) (h : j < count_of t) where
   queue_read = firsts_at (count_of t) (λ j. read_queue (record_at t (capacity_of t) j)) [] j h
 
 -- the first word of a record is the identity
-pub ident_word : (t : List ℕ) (j : ℕ) → (read_proc (record_at t (capacity_of t) j)).ident ≡ ident_at t j
+pub ident_word : (t : List ℕ) (j : ℕ) → (read_proc (record_at t (capacity_of t) j)).identity ≡ ident_at t j
 ident_word t j = record_word t (capacity_of t) j ident_place (omega arith)
 
 -- what the tests of a well-formed table tell
@@ -78,8 +78,8 @@ module _ (t : List ℕ) (ok : well_formed t ≡ true) where
 
   distinct : DistinctIn (count_of t) (ring_of t)
   distinct =
-      same_distinct (count_of t) (ident_at t) (λ j. (proc_at (ring_of t) j).ident)
-      (λ j h. sym (ap (λ (p : Proc). p.ident) (proc_read t j h) ∙ ident_word t j))
+      same_distinct (count_of t) (ident_at t) (λ j. (proc_at (ring_of t) j).identity)
+      (λ j h. sym (ap (λ (p : Process). p.identity) (proc_read t j h) ∙ ident_word t j))
       (fresh_distinct (ident_at t) (count_of t)
       (λ i h. all_at (is_fresh (ident_at t)) (count_of t) i h
       (and_right (long_ok t && sizes_ok t) (idents_ok t) upto_idents)))

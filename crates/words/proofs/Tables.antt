@@ -6,8 +6,8 @@ use native.Mathlib.Nat.{add-sub_cancel_left}
 use native.Mathlib.Omega.{arith}
 use lib.ListN.{length, get_or, take, drop, length-append, length-drop}
 use lib.Seq.{drop_at, length-take-le, get_or-take, get_or-drop}
-use Rattle.gateway.specs.declared.Proc.{Proc}
-use Rattle.gateway.specs.declared.Msg.{Msg}
+use Rattle.gateway.specs.declared.Process.{Process}
+use Rattle.gateway.specs.declared.Message.{Message}
 use Rattle.ring.specs.Ring.{Ring, queue_of}
 use Rattle.ring.specs.Gateways.{starting, proc_at}
 use Rattle.ring.proofs.Good.{Good}
@@ -25,7 +25,7 @@ use Rattle.words.specs.Table.{
   firsts,
   ring_of,
 }
-use Rattle.words.proofs.Spaces.{next_space, space_before}
+use Rattle.words.proofs.Spaces.{space_before}
 use Rattle.words.proofs.Blocks.{length_blocks, block_at, firsts_list}
 use Rattle.words.proofs.Records.{length_record, proc_back, queue_back}
 
@@ -46,10 +46,6 @@ record_word t c j k h =
 
 -- a is where record j begins, w is how long it is
 module _ (c j a w : ℕ) (at : a ≡ record_place c j) (wide : w ≡ record_width c) where
-  -- behind it the next one begins
-  pub next_place : a + w ≡ record_place c (j + 1)
-  next_place = rw wide (next_space table_head (record_width c) j a at)
-
   -- the part from a to a + w is that record
   pub record_part : (t : List ℕ) → take (a + w - a) (drop a t) ≡ record_at t c j
   record_part t = rw (add-sub_cancel_left a w, wide, at)
@@ -58,7 +54,7 @@ module _ (c j a w : ℕ) (at : a ≡ record_place c j) (wide : w ≡ record_widt
 pub past_head : (c j : ℕ) → record_place c j ≡ suc (suc (j * record_width c))
 past_head c j = omega arith
 
-module _ (n c : ℕ) (R : Ring Proc Msg) (rest : List ℕ) where
+module _ (n c : ℕ) (R : Ring Process Message) (rest : List ℕ) where
   abbrev record_of : ℕ → List ℕ
   record_of j = record_words c (proc_at R j) (queue_of R j)
 
@@ -107,7 +103,7 @@ module _ (n c : ℕ) (R : Ring Proc Msg) (rest : List ℕ) where
       rw (count_back, capacity_back, ps, qs)
 
 -- two rings of one capacity with the same words are one
-pub same_words : (n n' c : ℕ) (R R' : Ring Proc Msg) → Good n c R → Good n' c R' →
+pub same_words : (n n' c : ℕ) (R R' : Ring Process Message) → Good n c R → Good n' c R' →
     table_words n c R ≡ table_words n' c R' → (n ≡ n') × (R ≡ R')
 same_words n n' c R R' g g' e =
     let w : table_words n c R ++ [] ≡ table_words n' c R' ++ [] = ap (λ (t : List ℕ). t ++ []) e in (

@@ -1,0 +1,2 @@
+-- What the program prints of readings and of bytes.
+pub mod Printed
