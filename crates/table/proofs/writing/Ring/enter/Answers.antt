@@ -1,9 +1,9 @@
--- `table::turns::Ring::enter` changes the state of a process. Assumes nothing.
+-- `table::writing::Ring::enter` changes the state of a process. Assumes nothing.
 use Rattle.std.proofs.Common.{arith, ◌∙◌, List, ℕ}
 use Rattle.table.specs.Inside.{entered}
 use Rattle.table.proofs.Lending.{lend_put}
 use Rattle.table.proofs.Writes.{inside, entered_now, entered_formed}
-use Rattle.table.proofs.turns.Ring.enter.Goals as goal
+use Rattle.table.proofs.writing.Ring.enter.Goals as goal
 
 pub slice_bounds-enter-end-2 : goal.slice_bounds-enter-end-2
 slice_bounds-enter-end-2 c =

@@ -1,8 +1,8 @@
--- The loop of `table::turns::Ring::run`: what holds before each byte of the schedule.
+-- The loop of `table::writing::Ring::run`: what holds before each byte of the schedule.
 use Rattle.std.proofs.Common.{◌≡◌, ◌≤◌, ◌+◌, length}
 use Rattle.table.specs.Running.{run_on}
 use Rattle.table.proofs.Running.{over}
-use Rattle.table.proofs.turns.Ring.run.Given as goal
+use Rattle.table.proofs.writing.Ring.run.Given as goal
 
 -- what is left of the run is the run: the definition goes down the same list
 abbrev pub invariant-turns : goal.invariant-turns

@@ -1,7 +1,7 @@
--- `table::turns::Ring::run` is the run of the definitions, end and words. Assumes nothing.
+-- `table::writing::Ring::run` is the run of the definitions, end and words. Assumes nothing.
 use Rattle.std.proofs.Common.{rules, ◌≡◌, ◌<◌, ◌≤◌, ◌∙◌, ◌∷◌, ◌+◌, false, length, sym, arith}
 use Rattle.table.proofs.Running.{over_found, left_over, left_used_up, left_spent, left_moved, left_stuck, turned_formed}
-use Rattle.table.proofs.turns.Ring.run.Goals as goal
+use Rattle.table.proofs.writing.Ring.run.Goals as goal
 
 pub turns-init : goal.turns-init
 turns-init c = record {

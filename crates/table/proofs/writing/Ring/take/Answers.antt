@@ -1,6 +1,6 @@
--- `table::turns::Ring::take` is the turn of a process that takes. Assumes nothing.
+-- `table::writing::Ring::take` is the turn of a process that takes. Assumes nothing.
 use Rattle.table.proofs.Turning.{still_some, take_done}
-use Rattle.table.proofs.turns.Ring.take.Goals as goal
+use Rattle.table.proofs.writing.Ring.take.Goals as goal
 
 pub pop-requires-clause-some : goal.pop-requires-clause-some
 pop-requires-clause-some c =

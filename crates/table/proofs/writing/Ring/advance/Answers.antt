@@ -1,7 +1,7 @@
--- `table::turns::Ring::advance` is the turn of the chosen process. Assumes nothing.
+-- `table::writing::Ring::advance` is the turn of the chosen process. Assumes nothing.
 use Rattle.std.proofs.Common.{refl}
 use Rattle.table.proofs.Turning.{no_process, by_row, by_put, by_announcement}
-use Rattle.table.proofs.turns.Ring.advance.Goals as goal
+use Rattle.table.proofs.writing.Ring.advance.Goals as goal
 
 pub returns-then-self-j-clause-turn : goal.returns-then-self-j-clause-turn
 returns-then-self-j-clause-turn c = no_process _ _ _ c.args.self.now.formed c.args.j c.if-self-j.true

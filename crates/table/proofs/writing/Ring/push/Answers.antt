@@ -1,10 +1,10 @@
--- `table::turns::Ring::push` puts a message into a queue. Assumes nothing.
+-- `table::writing::Ring::push` puts a message into a queue. Assumes nothing.
 use Rattle.std.proofs.Common.{arith, ◌∙◌, List, ℕ}
 use Rattle.words.proofs.Tables.{record_part}
 use Rattle.table.specs.Inside.{put_words}
 use Rattle.table.proofs.Lending.{lend_put}
 use Rattle.table.proofs.Writes.{inside, pushed_now, pushed_formed, push_asks}
-use Rattle.table.proofs.turns.Ring.push.Goals as goal
+use Rattle.table.proofs.writing.Ring.push.Goals as goal
 
 pub slice_bounds-push-end-2 : goal.slice_bounds-push-end-2
 slice_bounds-push-end-2 c =

@@ -1,9 +1,9 @@
--- `table::turns::Ring::replace` changes a process. Assumes nothing.
+-- `table::writing::Ring::replace` changes a process. Assumes nothing.
 use Rattle.std.proofs.Common.{arith, ◌∙◌, List, ℕ}
 use Rattle.table.specs.Inside.{became_words}
 use Rattle.table.proofs.Lending.{lend_put}
 use Rattle.table.proofs.Writes.{inside, replaced_now, replaced_formed}
-use Rattle.table.proofs.turns.Ring.replace.Goals as goal
+use Rattle.table.proofs.writing.Ring.replace.Goals as goal
 
 pub slice_bounds-replace-end-2 : goal.slice_bounds-replace-end-2
 slice_bounds-replace-end-2 c =

@@ -1,10 +1,10 @@
--- `table::turns::Ring::pop` takes the oldest message from a queue. Assumes nothing.
+-- `table::writing::Ring::pop` takes the oldest message from a queue. Assumes nothing.
 use Rattle.std.proofs.Common.{arith, ◌∙◌, List, ℕ}
 use Rattle.words.proofs.Tables.{record_part}
 use Rattle.table.specs.Inside.{taken_words}
 use Rattle.table.proofs.Lending.{lend_put}
 use Rattle.table.proofs.Writes.{inside, popped_now, popped_formed, pop_asks}
-use Rattle.table.proofs.turns.Ring.pop.Goals as goal
+use Rattle.table.proofs.writing.Ring.pop.Goals as goal
 
 pub slice_bounds-pop-end-2 : goal.slice_bounds-pop-end-2
 slice_bounds-pop-end-2 c =
