@@ -4,7 +4,7 @@ use Rattle.std.specs.Result.{is_ok}
 use Prim.Native.Nat.{ℕ, ◌+◌, ◌*◌, ◌≤◌, ◌<◌}
 use mathlib.Core.Path.{◌≡◌, refl, sym, ap, ◌∙◌}
 use mathlib.Core.Bool.{true, false, true≢false}
-use mathlib.Core.List.{List, ◌∷◌, ◌++◌, append_assoc, append-nil}
+use mathlib.Core.List.{List, ◌∷◌}
 use native.Mathlib.Numerals.{add-one}
 use native.Mathlib.Omega.{arith}
 use lib.ListN.{length, get_or, drop, get_or-eq_default, drop_of_length-le}
@@ -15,8 +15,8 @@ use Rattle.words.specs.Table.{capacity_of}
 use Rattle.words.specs.Outcomes.{step_of}
 use Rattle.trial.specs.Trace.{Step, state_word, step_from, with_step, trace_of}
 use Rattle.trial.specs.Text.{step_line, step_lines}
-use Rattle.report.specs.Inside.{step_room}
-use Rattle.report.proofs.Laid.{wrote}
+use Rattle.report.specs.Inside.{wrote, step_room}
+use Rattle.report.proofs.Laid.{wrote_both, wrote_nothing}
 
 -- one choice is taken from those that are left
 pub trace_next : (t choices : List ℕ) (i : ℕ) → i < length choices → (a : Result Unit Refusal) (t' : List ℕ) →
@@ -33,34 +33,6 @@ refused_lem (Err y) failed x l = refl
 done_lem : (a : Result Unit Refusal) → is_ok a ≡ true → (x : Step) (l : List Step) → with_step a x l ≡ x ∷ l
 done_lem (Ok u) done x l = refl
 done_lem (Err y) done x l = absurd (true≢false (sym done))
-
--- what is there, and the lines of the choices that are left, are all the lines
-module _ (all : List ℕ) (t choices out : List ℕ) (k i : ℕ)
-    (whole : out ++ step_lines k (trace_of t (drop i choices)) ≡ all) (more : i < length choices) (t' : List ℕ) where
-  abbrev j : ℕ
-  j = get_or choices i 0
-
-  -- what the choice answers and leaves
-  module _ (a : Result Unit Refusal) (e : (a, t') ≡ step_of t j) where
-    -- a refused choice puts none
-    pub stayed : is_ok a ≡ false → out ++ step_lines k (trace_of t' (drop (i + 1) choices)) ≡ all
-    stayed failed =
-        ap (λ l. out ++ step_lines k l) (sym (trace_next t choices i more a t' e ∙ refused_lem a failed _ _)) ∙ whole
-
-    -- the line of a taken step, by the state words that were read
-    pub went : is_ok a ≡ true → (b c : ℕ) → b ≡ state_word t j → c ≡ state_word t' j → (out' : List ℕ) →
-        out' ≡ out ++ step_line k (record { process = j; before = b; after = c }) →
-        out' ++ step_lines (k + 1) (trace_of t' (drop (i + 1) choices)) ≡ all
-    went done b c was is out' put =
-        rw (put, append_assoc out (step_line k (record { process = j; before = b; after = c })), was, is)
-        (ap (λ l. out ++ step_lines k l) (sym (trace_next t choices i more a t' e ∙ done_lem a done _ _)) ∙ whole)
-
--- where no choice is left, all of them are there
-pub gone : (all : List ℕ) (t choices out : List ℕ) (k i : ℕ) → length choices ≤ i →
-    out ++ step_lines k (trace_of t (drop i choices)) ≡ all → out ≡ all
-unfolding trace_of
-gone all t choices out k i none whole =
-    sym (append-nil out) ∙ ap (λ l. out ++ step_lines k (trace_of t l)) (sym (drop_of_length-le choices none)) ∙ whole
 
 -- the buffer has so many bytes from a place on
 abbrev pub Room : List ℕ → ℕ → ℕ → Type 0
@@ -96,3 +68,52 @@ module _ (t₀ choices out₀ t out : List ℕ) (at k i : ℕ) (g : Going t₀ c
   -- there is room for the line of one more
   pub step_fits : i < length choices → Room out₀ 0 (length choices * step_room) → Room out at step_room
   step_fits more fits = omega (arith, g.within, g.long, fits, more)
+
+  -- no choice is left
+  pub gone : length choices ≤ i → (at, out) ≡ wrote out₀ 0 (step_lines 1 (trace_of t₀ choices))
+  unfolding trace_of
+  gone all =
+      sym (wrote_nothing out at)
+      ∙ ap (λ (l : List ℕ). wrote out at (step_lines k (trace_of t l))) (sym (drop_of_length-le choices all))
+      ∙ g.whole
+
+  module _ (more : i < length choices) (t' : List ℕ) where
+    abbrev j : ℕ
+    j = get_or choices i 0
+
+    -- what the choice answers and leaves
+    module _ (a : Result Unit Refusal) (e : (a, t') ≡ step_of t j) where
+      -- a refused choice puts no line
+      pub stayed : is_ok a ≡ false → Going t₀ choices out₀ t' out at k (i + 1)
+      stayed failed = record {
+        upto = omega (arith, more);
+        few = omega (arith, g.few);
+        within = omega (arith, g.within);
+        long = g.long;
+        whole =
+            ap (λ (l : List Step). wrote out at (step_lines k l))
+            (sym (trace_next t choices i more a t' e ∙ refused_lem a failed _ _))
+            ∙ g.whole;
+      }
+
+      -- the line of a taken step, by the state words that were read
+      pub went : is_ok a ≡ true → Room out₀ 0 (length choices * step_room) → (b c : ℕ) → b ≡ state_word t j →
+          c ≡ state_word t' j → (at' : ℕ) (out' : List ℕ) →
+          (at', out') ≡ wrote out at (step_line k (record { process = j; before = b; after = c })) →
+          at' ≤ at + step_room → length out' ≡ length out → Going t₀ choices out₀ t' out' at' (k + 1) (i + 1)
+      went done fits b c was is at' out' w short same = record {
+        upto = omega (arith, more);
+        few = omega (arith, g.few);
+        within = omega (arith, short, g.within);
+        long = same ∙ g.long;
+        whole =
+            wrote_both out at (step_line k (record { process = j; before = b; after = c })) at' out' w
+            (omega (arith, short, step_fits more fits)) (step_lines (k + 1) (trace_of t' (drop (i + 1) choices)))
+            ∙ ap (λ (l : List Step). wrote out at (step_lines k l))
+            (named ∙ sym (trace_next t choices i more a t' e ∙ done_lem a done _ _))
+            ∙ g.whole;
+      }
+        where
+          named : record { process = j; before = b; after = c } ∷ trace_of t' (drop (i + 1) choices)
+              ≡ step_from t t' j ∷ trace_of t' (drop (i + 1) choices)
+          named = rw (was, is)

@@ -1,6 +1,7 @@
 -- `report::put_ring` puts the text of the ring that an input asks for. Assumes nothing.
-use Rattle.std.proofs.Common.{replicate, ◌∙◌, arith}
+use Rattle.std.proofs.Common.{replicate, ◌∙◌, subst, arith}
 use Rattle.std.proofs.lemmas.Result.{err_from_is_err_and, on_ok_weaker, IfErr-weaker}
+use Rattle.report.specs.Inside.{Puts}
 use Rattle.report.proofs.Starting.{refused_asked, started_text}
 use Rattle.report.proofs.put_ring.Goals as goal
 
@@ -22,9 +23,10 @@ pub returns-clause-text : goal.returns-clause-text
 returns-clause-text c =
     let a = c.in_ok-asked in
     on_ok_weaker c.put.result
-    (λ e. e ∙ rw (c.schedule.ensures, c.budget.ensures)
+    (λ p. subst (λ x. Puts c.args.out.now c.put.new.out x)
+    (rw (c.schedule.ensures, c.budget.ensures)
     (started_text c.args.input.now a.asked a.ensures.outcome (replicate 16 0) _ (omega (arith, a.ensures.few))
-    c.identities.ensures _ _ c.in_ok-start.ensures))
+    c.identities.ensures _ _ c.in_ok-start.ensures)) p)
     c.put.ensures.text
 
 pub returns-clause-refused : goal.returns-clause-refused
