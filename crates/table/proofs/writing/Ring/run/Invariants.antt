@@ -1,19 +1,15 @@
 -- The loop of `table::writing::Ring::run`: what holds before each byte of the schedule.
-use Rattle.std.proofs.Common.{◌≡◌, ◌≤◌, ◌+◌, length}
-use Rattle.table.specs.Running.{run_on}
-use Rattle.table.proofs.Running.{over}
+use Rattle.std.proofs.Common.{◌≡◌, ◌+◌, length, drop}
+use Rattle.table.proofs.Going.{Going}
 use Rattle.table.proofs.writing.Ring.run.Given as goal
 
--- what is left of the run is the run: the definition goes down the same list
+-- the choices that came are the schedule's first, and the run goes on after them
 abbrev pub invariant-turns : goal.invariant-turns
 invariant-turns l = record {
   same_slice : l.self.words.ghost_name ≡ l.fn.self.words.ghost_name;
-  tells : l.over ≡ over l.self.words.now;
-  left :
-      run_on l.self.words.now l.rest l.budget l.taken l.skipped
-      ≡ run_on l.fn.self.words.now l.fn.schedule l.budget 0 0;
-  paid : l.taken ≤ l.budget;
-  passed : l.skipped + length l.rest ≤ length l.fn.schedule;
+  later : l.rest ≡ drop (l.taken + l.skipped) l.fn.schedule;
+  going :
+      Going l.fn.self.words.now l.fn.schedule l.budget l.self.words.now l.over (l.taken + l.skipped) l.taken l.skipped;
 }
 
 abbrev pub decreases-turns : goal.decreases-turns
