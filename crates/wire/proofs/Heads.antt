@@ -41,6 +41,14 @@ among_byte (h ∷ hs) b o k e = by_test (λ f. among_byte hs b o k f) (eqb b (ki
 pub head_byte : (b : ℕ) (o : Order) (k : Kind) → head_of b ≡ Some (head o k) → b ≡ kind_byte o k
 head_byte b o k e = among_byte heads b o k e
 
+among_none : (hs : List Head) (b : ℕ) → ((o : Order) (k : Kind) → b ≡ kind_byte o k → ⊥) → head_among hs b ≡ None
+among_none [] b f = refl
+among_none (h ∷ hs) b f = rw (ne_eqb b (kind_byte h.order h.kind) (f h.order h.kind)) (among_none hs b f)
+
+-- a byte that is no order's and kind's names none
+pub head_none : (b : ℕ) → ((o : Order) (k : Kind) → b ≡ kind_byte o k → ⊥) → head_of b ≡ None
+head_none b f = among_none heads b f
+
 -- a number that no kind has is in no frame
 pub head_past : (g n : ℕ) → last_kind < n → head_for g n ≡ None
 head_past g n h = rw (lt-ltb last_kind n h)

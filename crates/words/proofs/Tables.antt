@@ -25,7 +25,7 @@ use Rattle.words.specs.Table.{
   firsts,
   ring_of,
 }
-use Rattle.words.proofs.Spaces.{space_before}
+use Rattle.words.proofs.Spaces.{next_space, space_before}
 use Rattle.words.proofs.Blocks.{length_blocks, block_at, firsts_list}
 use Rattle.words.proofs.Records.{length_record, proc_back, queue_back}
 
@@ -46,6 +46,10 @@ record_word t c j k h =
 
 -- a is where record j begins, w is how long it is
 module _ (c j a w : ℕ) (at : a ≡ record_place c j) (wide : w ≡ record_width c) where
+  -- behind it the next one begins
+  pub next_place : a + w ≡ record_place c (j + 1)
+  next_place = rw wide (next_space table_head (record_width c) j a at)
+
   -- the part from a to a + w is that record
   pub record_part : (t : List ℕ) → take (a + w - a) (drop a t) ≡ record_at t c j
   record_part t = rw (add-sub_cancel_left a w, wide, at)
