@@ -292,13 +292,6 @@ def laws_of(row):
     return {(law[1], name) for law in laws for name in law_names(law)}
 
 
-def last(file):
-    """The declarations of an .antt file that no other of it uses."""
-    parts = file.declared.values()
-    return [part.name for part in parts
-            if not any(other.names(name) for other in parts if other != part for name in [part.name, *part.members])]
-
-
 def settled_faults():
     """Every public function stands in a row with a theorem that settles it, and every such theorem in a row."""
     rows = settled_rows()
@@ -311,7 +304,7 @@ def settled_faults():
              for name, crate in offered if (name, crate) not in pairs]
     cited = {law for row in rows for law in laws_of(row)}
     theorems = [(path.parent.parent.name, name) for path, file in tree.laws().items() if path.stem == "Settled"
-                for name in last(file)]
+                for name in file.declared]
     return found + [(PROMISES, 0, f"{crate}/proofs/Settled: {name} is not cited under '{SETTLED}'")
                     for crate, name in theorems if (crate, name) not in cited]
 
